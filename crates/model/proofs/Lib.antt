@@ -1,0 +1,3 @@
+pub mod Places
+pub mod Lists
+pub mod Rounds

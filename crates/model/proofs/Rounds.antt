@@ -1,0 +1,129 @@
+-- A round of writing, whole and cut off after any number of calls.
+use mathlib.Core.Path.{_≡_, refl, sym, ap, subst, _∙_}
+use mathlib.Core.Logic.{_⊎_, inl, inr, ⊎-elim}
+use mathlib.Core.List.{List, [], _∷_, _++_}
+use Prim.Native.Nat.{ℕ, zero, suc, _+_, _-_, _/_, _<_, _≤_}
+use native.Mathlib.Omega.{arith}
+use native.Mathlib.Nat.{mul-le-mul-right}
+use lib.ListN.{length, take, getD, set}
+use lib.Ieee.Nearest.{div-mono}
+use Rattle.std.proofs.shelf.Tests.{cases-eq}
+use Rattle.std.specs.declared.option.Option.{Option}
+use Rattle.model.specs.Places.{settled}
+use Rattle.model.specs.Writes.{Meaning, bytes, Write, store, post, settle, Granted, Cut, Ran, Spared}
+use Rattle.model.specs.Rounds.{stores, posts, lines, round, overwritten}
+use Rattle.model.specs.Laws.{Once, Outside, Round-spares, Round-falls, Round-lasts, Round-bytes}
+use Rattle.model.proofs.Places.{holds, Rests, rests-steady, Shows, shows-steady, Ready, store-shows, post-ready, stays-ready, settle-rests, settled-falls}
+use Rattle.model.proofs.Lists.{ran-split, ran-size, spared-take, spared-append, once-take, once-before, ran-holds, once-falls, written, ran-bytes}
+
+-- which places a round stores at
+spared-posts : (q l n : ℕ) → Spared q (posts l n)
+spared-posts q l zero = tt
+spared-posts q l (suc n) = (tt, spared-posts q (suc l) n)
+
+spared-end : (q l n : ℕ) → Spared q (posts l n ++ (settle ∷ []))
+spared-end q l n = spared-append q (posts l n) (settle ∷ []) (spared-posts q l n) (tt, tt)
+
+spared-stores : (q p : ℕ) (bs : List ℕ) → Outside p (length bs) q → Spared q (stores p bs)
+spared-stores q p [] out = tt
+spared-stores q p (b ∷ bs) out = (λ e. out (omega arith) (omega arith), spared-stores q (suc p) bs (λ le lt. out (omega arith) (omega arith)))
+
+pub spared-round : (L q p : ℕ) (bs : List ℕ) → Outside p (length bs) q → Spared q (round L p bs)
+unfolding round
+spared-round L q p [] out = tt
+spared-round L q p (b ∷ bs) out = spared-append q (stores p (b ∷ bs)) _ (spared-stores q p (b ∷ bs) out) (spared-end q (p / L) (lines L p (length (b ∷ bs))))
+
+once-stores : (p i : ℕ) (bs : List ℕ) → i < length bs → Once (p + i) (getD bs i 0) (stores p bs)
+once-stores p i [] lt = absurd (omega arith)
+once-stores p zero (b ∷ bs) lt =
+    let e : p ≡ p + 0 = omega arith in
+    inr (ap (λ q. store q b) e, spared-stores (p + 0) (suc p) bs (λ le _. omega arith))
+once-stores p (suc i) (b ∷ bs) lt =
+    let e : suc p + i ≡ p + suc i = omega arith in
+    inl (λ f. omega arith, subst (λ q. Once q (getD bs i 0) (stores (suc p) bs)) e (once-stores (suc p) i bs (omega arith)))
+
+pub once-round : (L p i : ℕ) (bs : List ℕ) → i < length bs → Once (p + i) (getD bs i 0) (round L p bs)
+unfolding round
+once-round L p i [] lt = absurd (omega arith)
+once-round L p i (b ∷ bs) lt = once-before (p + i) (getD (b ∷ bs) i 0) (stores p (b ∷ bs)) _ (once-stores p i (b ∷ bs) lt) (spared-end (p + i) (p / L) (lines L p (length (b ∷ bs))))
+
+pub round-spares : Round-spares
+round-spares L p bs k q a m n o s lt out e r =
+    let stays = ran-holds (Rests a) (rests-steady a) L q (take k (round L p bs)) m n r lt (spared-take k q (round L p bs) (spared-round L q p bs out)) e in
+    (stays, λ c. settled-falls q a n o s (subst (λ z. q < z) (sym (ran-size L (take k (round L p bs)) m n r)) lt) stays c)
+
+pub round-falls : Round-falls
+round-falls L p bs k i a m n o s lt within e r c =
+    once-falls L (p + i) a (getD bs i 0) (take k (round L p bs)) m n o s within (once-take k (p + i) (getD bs i 0) (round L p bs) (once-round L p i bs lt)) e r c
+
+-- the whole round
+within-size : (L q : ℕ) (ws : List Write) (m n : Meaning) → Ran L ws m n → q < m .size → q < n .size
+within-size L q ws m n r lt = subst (λ z. q < z) (sym (ran-size L ws m n r)) lt
+
+stores-show : (L p i : ℕ) (bs : List ℕ) (m n : Meaning) → i < length bs → Ran L (stores p bs) m n → (p + i < n .size) × Shows (getD bs i 0) (n .at (p + i))
+stores-show L p i [] m n lt r = absurd (omega arith)
+stores-show L p zero (b ∷ bs) m n lt r =
+    let e : p ≡ p + 0 = omega arith in
+    let on : p < r .0 .size = subst (λ z. p < z) (sym (r .1 .size)) (r .1 .within) in
+    subst (λ q. (q < n .size) × Shows b (n .at q)) e
+    (within-size L p (stores (suc p) bs) (r .0) n (r .2) on,
+     ran-holds (Shows b) (shows-steady b) L p (stores (suc p) bs) (r .0) n (r .2) on (spared-stores p (suc p) bs (λ le _. omega arith)) (store-shows L p b m (r .0) (r .1)))
+stores-show L p (suc i) (b ∷ bs) m n lt r =
+    let e : suc p + i ≡ p + suc i = omega arith in
+    subst (λ q. (q < n .size) × Shows (getD bs i 0) (n .at q)) e (stores-show L (suc p) i bs (r .0) n (omega arith) (r .2))
+
+-- after posts that came by the place's line, a settle
+ready-settles : (L q b l n : ℕ) (m o : Meaning) → q < m .size → Ready b (m .at q) → Ran L (posts l n ++ (settle ∷ [])) m o → o .at q ≡ settled b
+ready-settles L q b l zero m o lt h r = subst (λ x. x .at q ≡ settled b) (sym (r .2)) (settle-rests L q b m (r .0) (r .1) lt h)
+ready-settles L q b l (suc n) m o lt h r =
+    ready-settles L q b (suc l) n (r .0) o (subst (λ z. q < z) (sym (r .1 .size)) lt) (stays-ready L q b (post l) m (r .0) (r .1) lt tt h) (r .2)
+
+posts-settle : (L q b l n : ℕ) (m o : Meaning) → q < m .size → l ≤ q / L → q / L < l + n → Shows b (m .at q) → Ran L (posts l n ++ (settle ∷ [])) m o → o .at q ≡ settled b
+posts-settle L q b l zero m o lt le up h r = absurd (omega arith)
+posts-settle L q b l (suc n) m o lt le up h r =
+    let lt′ : q < r .0 .size = subst (λ z. q < z) (sym (r .1 .size)) lt in
+    ⊎-elim
+    (λ e. ready-settles L q b (suc l) n (r .0) o lt′ (post-ready L q b m (r .0) (subst (λ x. Granted L (post x) m (r .0)) e (r .1)) lt h) (r .2))
+    (λ ne. posts-settle L q b (suc l) n (r .0) o lt′ (omega arith) (omega arith)
+        (holds (Shows b) (shows-steady b) L q (post l) m (r .0) (r .1) lt tt h) (r .2))
+    (cases-eq l (q / L))
+
+-- the line of the i-th place lies among the lines of all
+line-reached : (L p i n : ℕ) → 0 < L → i < suc n → (p / L ≤ (p + i) / L) × ((p + i) / L < p / L + lines L p (suc n))
+line-reached L p i n some lt =
+    let first : p ≤ p + i = omega arith in
+    let last : p + i ≤ p + n = omega arith in
+    let low : p / L ≤ (p + i) / L = div-mono p L (p + i) L some some (mul-le-mul-right L first) in
+    let high : (p + i) / L ≤ (p + n) / L = div-mono (p + i) L (p + n) L some some (mul-le-mul-right L last) in
+    (low, omega arith)
+
+pub round-lasts : Round-lasts
+unfolding round
+round-lasts L p [] i m n some lt r = absurd (omega arith)
+round-lasts L p (b ∷ bs) i m n some lt r =
+    let count = lines L p (length (b ∷ bs)) in
+    let s = ran-split L (stores p (b ∷ bs)) (posts (p / L) count ++ (settle ∷ [])) m n r in
+    let shows = stores-show L p i (b ∷ bs) m (s .0) lt (s .1) in
+    let reached = line-reached L p i (length bs) some lt in
+    posts-settle L (p + i) (getD (b ∷ bs) i 0) (p / L) count (s .0) n (shows .0) (reached .0) (reached .1) (shows .1) (s .2)
+
+-- the present bytes
+end-writes : (k l n : ℕ) (xs : List ℕ) → written (take k (posts l n ++ (settle ∷ []))) xs ≡ xs
+end-writes zero l n xs = refl
+end-writes (suc zero) l zero xs = refl
+end-writes (suc (suc k)) l zero xs = refl
+end-writes (suc k) l (suc n) xs = end-writes k (suc l) n xs
+
+stores-write : (k p : ℕ) (bs : List ℕ) (l n : ℕ) (xs : List ℕ) → written (take k (stores p bs ++ (posts l n ++ (settle ∷ [])))) xs ≡ overwritten xs p (take k bs)
+stores-write zero p bs l n xs = refl
+stores-write (suc k) p [] l n xs = end-writes (suc k) l n xs
+stores-write (suc k) p (b ∷ bs) l n xs = stores-write k (suc p) bs l n (set xs p b)
+
+round-writes : (L k p : ℕ) (bs xs : List ℕ) → written (take k (round L p bs)) xs ≡ overwritten xs p (take k bs)
+unfolding round
+round-writes L zero p bs xs = refl
+round-writes L (suc k) p [] xs = refl
+round-writes L (suc k) p (b ∷ bs) xs = stores-write (suc k) p (b ∷ bs) (p / L) (lines L p (length (b ∷ bs))) xs
+
+pub round-bytes : Round-bytes
+round-bytes L p bs k m n r = ran-bytes L (take k (round L p bs)) m n r ∙ round-writes L k p bs (bytes m)
