@@ -1,0 +1,2 @@
+mod Sweeps
+mod Tables

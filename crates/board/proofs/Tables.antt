@@ -1,0 +1,104 @@
+-- What the line board's calls make of its table is what a board may do.
+use mathlib.Core.Path.{_≡_, refl, sym, ap, subst, _∙_}
+use mathlib.Core.Logic.{_≢_, inl, inr, ⊎-elim}
+use mathlib.Core.Bool.{Bool, true, false, cond}
+use mathlib.Core.List.{List, map}
+use Prim.Native.Nat.{ℕ, _*_, _/_, _<_}
+use native.Mathlib.Omega.{arith}
+use lib.Dec.{eqb}
+use lib.ListN.{length, getD, set}
+use Rattle.std.proofs.shelf.Tests.{cases-eq, cond-true, cond-false, eq-eqb, ne-eqb}
+use Rattle.std.proofs.shelf.Lists.{getD-set-same, getD-set-other, length-set, length-map, getD-map}
+use Rattle.std.specs.declared.option.Option.{Option}
+use Rattle.std.specs.declared.option.Option.the-variants.{Some, None}
+use Rattle.model.specs.Places.{Place, settled, loose, marked, Kept, Stored, Closed, Fallen}
+use Rattle.model.specs.Writes.{store, post, settle, spent, StoredAt, PostedAt, Granted, Cut}
+use Rattle.board.specs.declared.line.Cell.{Cell}
+use Rattle.board.specs.declared.line.Stores.{Stores}
+use Rattle.board.specs.declared.line.Stores.the-variants.{Never, Once, More}
+use Rattle.board.specs.Cells.{standing, place-of, blank, resting, posting, stored, stored-over, closed, fallen, wish}
+use Rattle.board.specs.Lines.{line-meaning, each, with-line, stored-table, posted-table, settled-table, cut-table}
+use Rattle.board.proofs.Sweeps.{length-each, getD-each}
+
+-- one cell
+posting-marks : (st : Stores) (a s : ℕ) (u v : Bool) → standing st a s v ≡ marked v (standing st a s u)
+posting-marks Never a s u v = refl
+posting-marks Once a s u v = refl
+posting-marks More a s u v = refl
+
+storing : (st : Stores) (a s b : ℕ) (u : Bool) → Stored b (standing st a s u) (place-of (stored-over st b a s))
+storing Never a s b u = inl refl
+storing Once a s b u = inl (None, refl)
+storing More a s b u = inl (None, refl)
+
+closing : (st : Stores) (a s : ℕ) (u : Bool) → Closed (standing st a s u) (place-of (cond u (resting a) (record { present = a; settled = s; stores = st; posted = u })))
+closing Never a s true = refl
+closing Never a s false = refl
+closing Once a s true = refl
+closing Once a s false = inl refl
+closing More a s true = refl
+closing More a s false = inl refl
+
+-- a line with its posting set
+line-inside : (v : Bool) (l : ℕ) (cs : List Cell) (k : ℕ) → k < length cs → k / 64 ≡ l → place-of (getD (with-line v l cs) k blank) ≡ marked v (place-of (getD cs k blank))
+line-inside v l cs k lt e =
+    let c = getD cs k blank in
+    ap place-of (getD-each (λ j x. cond (eqb (j / 64) l) (posting v x) x) cs k lt ∙ cond-true _ _ _ (eq-eqb (k / 64) l e))
+    ∙ posting-marks (c .stores) (c .present) (c .settled) (c .posted) v
+
+line-apart : (v : Bool) (l : ℕ) (cs : List Cell) (k : ℕ) → k < length cs → (k / 64 ≡ l → ⊥) → place-of (getD (with-line v l cs) k blank) ≡ place-of (getD cs k blank)
+line-apart v l cs k lt ne =
+    ap place-of (getD-each (λ j x. cond (eqb (j / 64) l) (posting v x) x) cs k lt ∙ cond-false _ _ _ (ne-eqb (k / 64) l ne))
+
+length-line : (v : Bool) (l : ℕ) (cs : List Cell) → length (with-line v l cs) ≡ length cs
+length-line v l cs = length-each (λ j x. cond (eqb (j / 64) l) (posting v x) x) 0 cs
+
+-- the calls
+module _ (cs : List Cell) (s t : Option ℕ) (powered : s ≡ Some 0 → ⊥) (spends : t ≡ spent s) where
+  pub store-granted : (p b : ℕ) → p < length cs → Granted 64 (store p b) (line-meaning cs s) (line-meaning (stored-table p b cs) t)
+  store-granted p b lt =
+      let line = with-line false (p / 64) cs in
+      let c = getD cs p blank in
+      let other : (k : ℕ) → k ≢ p → place-of (getD (stored-table p b cs) k blank) ≡ place-of (getD line k blank) =
+          λ k ne. ap place-of (getD-set-other line p k (stored b c) blank ne) in
+      let here : place-of (getD (stored-table p b cs) p blank) ≡ place-of (stored b c) =
+          ap place-of (getD-set-same line p (stored b c) blank (subst (λ n. p < n) (sym (length-line false (p / 64) cs)) lt)) in
+      record {
+        within = lt;
+        powered = powered;
+        size = length-set line p (stored b c) ∙ length-line false (p / 64) cs;
+        supply = spends;
+        places = λ k h.
+          record {
+            here = λ e. subst (λ j. Stored b (place-of (getD cs j blank)) (place-of (getD (stored-table p b cs) j blank))) (sym e)
+              (subst (λ y. Stored b (place-of c) y) (sym here) (storing (c .stores) (c .present) (c .settled) b (c .posted)));
+            beside = λ ne e. inl (other k ne ∙ line-inside false (p / 64) cs k h e);
+            apart = λ ne. inl (other k (λ e. ne (ap (λ j. j / 64) e)) ∙ line-apart false (p / 64) cs k h ne);
+          };
+      }
+
+  pub post-granted : (l : ℕ) → l * 64 < length cs → Granted 64 (post l) (line-meaning cs s) (line-meaning (posted-table l cs) t)
+  post-granted l lt =
+      record {
+        within = lt;
+        powered = powered;
+        size = length-line true l cs;
+        supply = spends;
+        places = λ k h. record { inside = λ e. inl (line-inside true l cs k h e); apart = λ ne. inl (line-apart true l cs k h ne) };
+      }
+
+  pub settle-granted : Granted 64 settle (line-meaning cs s) (line-meaning (settled-table cs) t)
+  settle-granted =
+      record {
+        within = tt;
+        powered = powered;
+        size = length-map cs closed;
+        supply = spends;
+        places = λ k h.
+          let c = getD cs k blank in
+          subst (λ y. Closed (place-of c) (place-of y)) (sym (getD-map closed cs k blank blank h)) (closing (c .stores) (c .present) (c .settled) (c .posted));
+      }
+
+-- a power cut, by what it leaves of each cell
+pub cut-falls : (cs ds : List Cell) (s t : Option ℕ) (ws : List ℕ) → ds ≡ cut-table ws cs → ((k : ℕ) → k < length cs → Fallen (place-of (getD cs k blank)) (place-of (getD ds k blank))) → Cut t (line-meaning cs s) (line-meaning ds t)
+cut-falls cs ds s t ws e may = record { size = ap length e ∙ length-each (λ k c. fallen (wish ws k) c) 0 cs; supply = refl; places = may }

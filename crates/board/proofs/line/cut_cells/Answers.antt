@@ -1,0 +1,19 @@
+use borrow.Author.Needs.{needs}
+use native.Mathlib.Omega.{arith}
+use Rattle.board.specs.Cells.{fallen, wish}
+use Rattle.board.specs.Lines.{Fell}
+use Rattle.board.proofs.Sweeps.{swept-none, swept-more, swept-all}
+use Rattle.board.proofs.line.cut_cells.Needs as need
+
+pub loop-i-holds : need.loop-i-holds
+loop-i-holds c = swept-none _ _ _
+
+pub loop-i-again : need.loop-i-again
+loop-i-again c = swept-more (Fell (c .args .wanted .now)) _ _ _ _ _ (omega arith) (omega arith) (c .loop-i .inv) (search needs, c .fallen-cell .ensures .may)
+
+pub returns : need.returns
+returns c = let s = c .loop-i .inv in
+    record {
+      exact = swept-all (λ k x. fallen (wish (c .args .wanted .now) k) x) (Fell (c .args .wanted .now)) _ _ _ (λ k x y e. e .0) (omega arith) s;
+      may = λ k h. s .done k (omega arith) (omega arith) .1;
+    }

@@ -1,0 +1,54 @@
+-- The line board's table of cells: what it means, and what each call leaves of it.
+use mathlib.Core.Path.{_≡_}
+use mathlib.Core.Bool.{Bool, true, false, cond}
+use mathlib.Core.List.{List, [], _∷_, map}
+use Prim.Native.Nat.{ℕ, suc, _/_}
+use denote.Ref.{now}
+use lib.Dec.{eqb}
+use lib.ListN.{length, getD, set}
+use Rattle.std.specs.declared.option.Option.{Option}
+use Rattle.model.specs.Places.{Fallen}
+use Rattle.model.specs.Writes.{Meaning}
+use Rattle.board.specs.declared.line.Cell.{Cell}
+use Rattle.board.specs.declared.line.LineBoard.{LineBoard}
+use Rattle.board.specs.Cells.{place-of, resting, blank, posting, stored, closed, fallen, wish}
+
+-- the places in a line
+abbrev pub line-width : ℕ
+line-width = 64
+
+abbrev pub line-meaning : List Cell → Option ℕ → Meaning
+line-meaning cs s = record { size = length cs; at = λ k. place-of (getD cs k blank); supply = s }
+
+abbrev pub line-board : LineBoard → Meaning
+line-board b = line-meaning (now (b .cells)) (b .supply)
+
+-- each cell by its place, the first at k
+abbrev pub each : (ℕ → Cell → Cell) → ℕ → List Cell → List Cell
+each f k [] = []
+each f k (c ∷ cs) = f k c ∷ each f (suc k) cs
+
+-- the posting of line l set, the other lines as they are
+abbrev pub with-line : Bool → ℕ → List Cell → List Cell
+with-line v l cs = each (λ k c. cond (eqb (k / line-width) l) (posting v c) c) 0 cs
+
+-- every cell settled at its present byte
+abbrev pub new-table : List Cell → List Cell
+new-table cs = map (λ c. resting (c .present)) cs
+
+-- b stored at p, whose line loses its posting
+abbrev pub stored-table : ℕ → ℕ → List Cell → List Cell
+stored-table p b cs = set (with-line false (p / line-width) cs) p (stored b (getD cs p blank))
+
+abbrev pub posted-table : ℕ → List Cell → List Cell
+posted-table l cs = with-line true l cs
+
+abbrev pub settled-table : List Cell → List Cell
+settled-table cs = map closed cs
+
+abbrev pub cut-table : List ℕ → List Cell → List Cell
+cut-table ws cs = each (λ k c. fallen (wish ws k) c) 0 cs
+
+-- a cell that a power cut leaves at place k, and that it is one that a board may leave
+abbrev pub Fell : List ℕ → ℕ → Cell → Cell → Type 0
+Fell ws k x y = (y ≡ fallen (wish ws k) x) × Fallen (place-of x) (place-of y)

@@ -1,0 +1,224 @@
+// The line board: bytes pass through a cache, and last once their line of 64 was posted and settled.
+ghost use mathlib.Core.Path.{_≡_};
+ghost use mathlib.Core.Bool.{cond};
+ghost use Prim.Native.Nat.{ℕ, _*_, _<_};
+ghost use denote.Ref.{now};
+ghost use lib.Dec.{lit≤};
+ghost use lib.ListN.{length, getD};
+ghost use Rattle.std.specs.Results.{isOk};
+ghost use Rattle.std.specs.declared.option.Option.the-variants.{None};
+ghost use Rattle.model.specs.Places.{Fallen};
+ghost use Rattle.model.specs.Writes.{Cut, store, post, settle};
+ghost use Rattle.board.specs.Calls.{Wrote};
+ghost use Rattle.board.specs.Cells.{place-of, resting, stored, closed, fallen, blank};
+ghost use Rattle.board.specs.Lines.{line-width, line-board, with-line, new-table, stored-table, posted-table, settled-table, cut-table};
+use crate::Board;
+use crate::Slip;
+use crate::faults::BoardFault;
+use crate::supply::draw;
+
+// The places in a line.
+const WIDTH: usize = 64;
+
+// How often a cell was stored at since it was settled. More than once, the byte that lasts below is unknown.
+#[derive(Clone, Copy)]
+pub enum Stores {
+    Never,
+    Once,
+    More,
+}
+
+// One place: its present byte, the byte it was settled at, the stores since then, and whether its line was posted.
+#[derive(Clone, Copy)]
+pub struct Cell {
+    present: u8,
+    settled: u8,
+    stores: Stores,
+    posted: bool,
+}
+
+impl Cell {
+    // A cell settled at a byte.
+    pub const fn resting(byte: u8) -> Cell
+        ensures { λ r. ⌜ r ≡ resting byte ⌝ }
+    {
+        Cell {
+            present: byte,
+            settled: byte,
+            stores: Stores::Never,
+            posted: false,
+        }
+    }
+
+    // After a store.
+    fn stored(self, byte: u8) -> Cell
+        ensures { λ r. ⌜ r ≡ stored byte self ⌝ }
+    {
+        match self.stores {
+            Stores::Never => Cell {
+                present: byte,
+                settled: self.present,
+                stores: Stores::Once,
+                posted: false,
+            },
+            _ => Cell {
+                present: byte,
+                settled: self.settled,
+                stores: Stores::More,
+                posted: false,
+            },
+        }
+    }
+
+    // After a settle.
+    fn closed(self) -> Cell
+        ensures { λ r. ⌜ r ≡ closed self ⌝ }
+    {
+        if self.posted {
+            Cell::resting(self.present)
+        } else {
+            self
+        }
+    }
+
+    // After a power cut: the wanted byte if it may stand here, else the settled one.
+    fn fallen(self, wanted: Option<u8>) -> Cell
+        ensures exact { λ r. ⌜ r ≡ fallen wanted self ⌝ }
+        ensures may { λ r. ⌜ Fallen (place-of self) (place-of r) ⌝ }
+    {
+        let byte = match (self.stores, wanted) {
+            (Stores::Never, _) => self.present,
+            (Stores::Once, Some(byte)) if byte == self.present => byte,
+            (Stores::More, Some(byte)) => byte,
+            _ => self.settled,
+        };
+        Cell::resting(byte)
+    }
+}
+
+// Sets the posting of the cells of a line.
+fn mark_line(cells: &mut [Cell], line: usize, posted: bool)
+    requires { ⌜ line * 64 < length (now cells) ⌝ }
+    ensures { λ _. ⌜ now (cells .exit) ≡ with-line posted line (now (cells .entry)) ⌝ }
+{
+    let first = line * WIDTH;
+    let end = first + WIDTH.min(cells.len() - first);
+    for i in first..end {
+        cells[i].posted = posted;
+    }
+}
+
+// Settles what is posted.
+fn settle_cells(cells: &mut [Cell])
+    ensures { λ _. ⌜ now (cells .exit) ≡ settled-table (now (cells .entry)) ⌝ }
+{
+    for i in 0..cells.len() {
+        let cell = cells[i].closed();
+        cells[i] = cell;
+    }
+}
+
+// What a power cut leaves of each cell.
+fn cut_cells(cells: &mut [Cell], wanted: &[u8])
+    ensures exact { λ _. ⌜ now (cells .exit) ≡ cut-table (now (wanted .entry)) (now (cells .entry)) ⌝ }
+    ensures may { λ _. ⌜ ((k : ℕ) → k < length (now (cells .entry)) → Fallen (place-of (getD (now (cells .entry)) k blank)) (place-of (getD (now (cells .exit)) k blank))) ⌝ }
+{
+    for i in 0..cells.len() {
+        let cell = cells[i].fallen(wanted.get(i).copied());
+        cells[i] = cell;
+    }
+}
+
+// Settles each cell at its present byte.
+fn renew_cells(cells: &mut [Cell])
+    ensures { λ _. ⌜ now (cells .exit) ≡ new-table (now (cells .entry)) ⌝ }
+{
+    for i in 0..cells.len() {
+        let cell = Cell::resting(cells[i].present);
+        cells[i] = cell;
+    }
+}
+
+#[derive(Drop)]
+pub struct LineBoard<'a> {
+    cells: &'a mut [Cell],
+    supply: Option<u64>,
+}
+
+impl<'a> LineBoard<'a> {
+    // A board over lent cells, each settled at its present byte, with no limit to the power.
+    pub fn over(cells: &'a mut [Cell]) -> LineBoard<'a>
+        ensures { λ r. ⌜ now (r .cells) ≡ new-table (now (cells .entry)) ⌝ ∗ ⌜ r .supply ≡ None ⌝ }
+    {
+        renew_cells(cells);
+        LineBoard {
+            cells,
+            supply: None,
+        }
+    }
+}
+
+pub impl Board for LineBoard<'_> as Lined {
+    ghost width = { line-width };
+
+    ghost bounded = { (lit≤ tt, lit≤ tt) };
+
+    ghost meaning = { line-board };
+
+    fn size(&self) -> usize {
+        self.cells.len()
+    }
+
+    fn line_size(&self) -> usize {
+        WIDTH
+    }
+
+    fn read(&self, place: usize) -> Result<u8, BoardFault> {
+        if place < self.cells.len() {
+            Ok(self.cells[place].present)
+        } else {
+            Err(BoardFault::Outside { given: place })
+        }
+    }
+
+    fn store(&mut self, place: usize, byte: u8) -> Result<(), BoardFault>
+        ensures { λ r. ⌜ Wrote line-width (store place byte) (line-board (now (self .entry))) r (line-board (now (self .exit))) ⌝ ∗ ⌜ now (now (self .exit) .cells) ≡ cond (isOk r) (stored-table place byte (now (now (self .entry) .cells))) (now (now (self .entry) .cells)) ⌝ }
+    {
+        if place >= self.cells.len() {
+            return Err(BoardFault::Outside { given: place });
+        }
+        self.supply = draw(self.supply)?;
+        let cell = self.cells[place].stored(byte);
+        mark_line(self.cells, place / WIDTH, false);
+        self.cells[place] = cell;
+        Ok(())
+    }
+
+    fn post(&mut self, line: usize, slip: &Slip) -> Result<(), BoardFault>
+        ensures { λ r. ⌜ Wrote line-width (post line) (line-board (now (self .entry))) r (line-board (now (self .exit))) ⌝ ∗ ⌜ now (now (self .exit) .cells) ≡ cond (isOk r) (posted-table line (now (now (self .entry) .cells))) (now (now (self .entry) .cells)) ⌝ }
+    {
+        let size = self.cells.len();
+        if size == 0 || line > (size - 1) / WIDTH {
+            return Err(BoardFault::Outside { given: line });
+        }
+        self.supply = draw(self.supply)?;
+        mark_line(self.cells, line, true);
+        Ok(())
+    }
+
+    fn settle(&mut self, slip: Slip) -> Result<(), BoardFault>
+        ensures { λ r. ⌜ Wrote line-width settle (line-board (now (self .entry))) r (line-board (now (self .exit))) ⌝ ∗ ⌜ now (now (self .exit) .cells) ≡ cond (isOk r) (settled-table (now (now (self .entry) .cells))) (now (now (self .entry) .cells)) ⌝ }
+    {
+        slip.spend();
+        self.supply = draw(self.supply)?;
+        settle_cells(self.cells);
+        Ok(())
+    }
+
+    fn cut(&mut self, wanted: &[u8], supply: Option<u64>)
+        ensures { λ _. ⌜ Cut supply (line-board (now (self .entry))) (line-board (now (self .exit))) ⌝ ∗ ⌜ now (now (self .exit) .cells) ≡ cut-table (now (wanted .entry)) (now (now (self .entry) .cells)) ⌝ }
+    {
+        cut_cells(self.cells, wanted);
+        self.supply = supply;
+    }
+}
