@@ -11,13 +11,13 @@ use Rattle.std.proofs.shelf.Tests.{cases-eq, cond-true, cond-false, eq-eqb, ne-
 use Rattle.std.proofs.shelf.Lists.{getD-set-same, getD-set-other, length-set, length-map, getD-map}
 use Rattle.std.specs.declared.option.Option.{Option}
 use Rattle.std.specs.declared.option.Option.the-variants.{Some, None}
-use Rattle.model.specs.Places.{Place, settled, loose, marked, Kept, Stored, Closed, Fallen}
-use Rattle.model.specs.Writes.{store, post, settle, spent, StoredAt, PostedAt, Granted, Cut}
+use Rattle.model.specs.Places.{Place, settled, loose, marked, Stored, Closed}
+use Rattle.model.specs.Writes.{store, post, settle, StoredAt, PostedAt}
 use Rattle.board.specs.declared.line.Cell.{Cell}
 use Rattle.board.specs.declared.line.Stores.{Stores}
 use Rattle.board.specs.declared.line.Stores.the-variants.{Never, Once, More}
-use Rattle.board.specs.Cells.{standing, place-of, blank, resting, posting, stored, stored-over, closed, fallen, wish}
-use Rattle.board.specs.Lines.{line-meaning, each, with-line, stored-table, posted-table, settled-table, cut-table}
+use Rattle.board.specs.Cells.{standing, place-of, blank, resting, posting, stored, stored-over, closed}
+use Rattle.board.specs.Lines.{with-line, stored-table, posted-table, settled-table, Table-after}
 use Rattle.board.proofs.Sweeps.{length-each, getD-each}
 
 -- one cell
@@ -54,51 +54,37 @@ length-line : (v : Bool) (l : ℕ) (cs : List Cell) → length (with-line v l cs
 length-line v l cs = length-each (λ j x. cond (eqb (j / 64) l) (posting v x) x) 0 cs
 
 -- the calls
-module _ (cs : List Cell) (s t : Option ℕ) (powered : s ≡ Some 0 → ⊥) (spends : t ≡ spent s) where
-  pub store-granted : (p b : ℕ) → p < length cs → Granted 64 (store p b) (line-meaning cs s) (line-meaning (stored-table p b cs) t)
-  store-granted p b lt =
-      let line = with-line false (p / 64) cs in
-      let c = getD cs p blank in
-      let other : (k : ℕ) → k ≢ p → place-of (getD (stored-table p b cs) k blank) ≡ place-of (getD line k blank) =
-          λ k ne. ap place-of (getD-set-other line p k (stored b c) blank ne) in
-      let here : place-of (getD (stored-table p b cs) p blank) ≡ place-of (stored b c) =
-          ap place-of (getD-set-same line p (stored b c) blank (subst (λ n. p < n) (sym (length-line false (p / 64) cs)) lt)) in
-      record {
-        within = lt;
-        powered = powered;
-        size = length-set line p (stored b c) ∙ length-line false (p / 64) cs;
-        supply = spends;
-        places = λ k h.
-          record {
-            here = λ e. subst (λ j. Stored b (place-of (getD cs j blank)) (place-of (getD (stored-table p b cs) j blank))) (sym e)
-              (subst (λ y. Stored b (place-of c) y) (sym here) (storing (c .stores) (c .present) (c .settled) b (c .posted)));
-            beside = λ ne e. inl (other k ne ∙ line-inside false (p / 64) cs k h e);
-            apart = λ ne. inl (other k (λ e. ne (ap (λ j. j / 64) e)) ∙ line-apart false (p / 64) cs k h ne);
-          };
-      }
+pub stored-may : (p b : ℕ) (cs : List Cell) → p < length cs → Table-after (store p b) cs (stored-table p b cs)
+stored-may p b cs lt =
+    let line = with-line false (p / 64) cs in
+    let c = getD cs p blank in
+    let other : (k : ℕ) → k ≢ p → place-of (getD (stored-table p b cs) k blank) ≡ place-of (getD line k blank) =
+        λ k ne. ap place-of (getD-set-other line p k (stored b c) blank ne) in
+    let here : place-of (getD (stored-table p b cs) p blank) ≡ place-of (stored b c) =
+        ap place-of (getD-set-same line p (stored b c) blank (subst (λ n. p < n) (sym (length-line false (p / 64) cs)) lt)) in
+    record {
+      size = length-set line p (stored b c) ∙ length-line false (p / 64) cs;
+      places = λ k h.
+        record {
+          here = λ e. subst (λ j. Stored b (place-of (getD cs j blank)) (place-of (getD (stored-table p b cs) j blank))) (sym e)
+            (subst (λ y. Stored b (place-of c) y) (sym here) (storing (c .stores) (c .present) (c .settled) b (c .posted)));
+          beside = λ ne e. inl (other k ne ∙ line-inside false (p / 64) cs k h e);
+          apart = λ ne. inl (other k (λ e. ne (ap (λ j. j / 64) e)) ∙ line-apart false (p / 64) cs k h ne);
+        };
+    }
 
-  pub post-granted : (l : ℕ) → l * 64 < length cs → Granted 64 (post l) (line-meaning cs s) (line-meaning (posted-table l cs) t)
-  post-granted l lt =
-      record {
-        within = lt;
-        powered = powered;
-        size = length-line true l cs;
-        supply = spends;
-        places = λ k h. record { inside = λ e. inl (line-inside true l cs k h e); apart = λ ne. inl (line-apart true l cs k h ne) };
-      }
+pub posted-may : (l : ℕ) (cs : List Cell) → Table-after (post l) cs (posted-table l cs)
+posted-may l cs =
+    record {
+      size = length-line true l cs;
+      places = λ k h. record { inside = λ e. inl (line-inside true l cs k h e); apart = λ ne. inl (line-apart true l cs k h ne) };
+    }
 
-  pub settle-granted : Granted 64 settle (line-meaning cs s) (line-meaning (settled-table cs) t)
-  settle-granted =
-      record {
-        within = tt;
-        powered = powered;
-        size = length-map cs closed;
-        supply = spends;
-        places = λ k h.
-          let c = getD cs k blank in
-          subst (λ y. Closed (place-of c) (place-of y)) (sym (getD-map closed cs k blank blank h)) (closing (c .stores) (c .present) (c .settled) (c .posted));
-      }
-
--- a power cut, by what it leaves of each cell
-pub cut-falls : (cs ds : List Cell) (s t : Option ℕ) (ws : List ℕ) → ds ≡ cut-table ws cs → ((k : ℕ) → k < length cs → Fallen (place-of (getD cs k blank)) (place-of (getD ds k blank))) → Cut t (line-meaning cs s) (line-meaning ds t)
-cut-falls cs ds s t ws e may = record { size = ap length e ∙ length-each (λ k c. fallen (wish ws k) c) 0 cs; supply = refl; places = may }
+pub settled-may : (cs : List Cell) → Table-after settle cs (settled-table cs)
+settled-may cs =
+    record {
+      size = length-map cs closed;
+      places = λ k h.
+        let c = getD cs k blank in
+        subst (λ y. Closed (place-of c) (place-of y)) (sym (getD-map closed cs k blank blank h)) (closing (c .stores) (c .present) (c .settled) (c .posted));
+    }

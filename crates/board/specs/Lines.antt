@@ -2,13 +2,13 @@
 use mathlib.Core.Path.{_≡_}
 use mathlib.Core.Bool.{Bool, true, false, cond}
 use mathlib.Core.List.{List, [], _∷_, map}
-use Prim.Native.Nat.{ℕ, suc, _/_}
+use Prim.Native.Nat.{ℕ, suc, _/_, _<_}
 use denote.Ref.{now}
 use lib.Dec.{eqb}
 use lib.ListN.{length, getD, set}
 use Rattle.std.specs.declared.option.Option.{Option}
 use Rattle.model.specs.Places.{Fallen}
-use Rattle.model.specs.Writes.{Meaning}
+use Rattle.model.specs.Writes.{Meaning, Write, After}
 use Rattle.board.specs.declared.line.Cell.{Cell}
 use Rattle.board.specs.declared.line.LineBoard.{LineBoard}
 use Rattle.board.specs.Cells.{place-of, resting, blank, posting, stored, closed, fallen, wish}
@@ -52,3 +52,13 @@ cut-table ws cs = each (λ k c. fallen (wish ws k) c) 0 cs
 -- a cell that a power cut leaves at place k, and that it is one that a board may leave
 abbrev pub Fell : List ℕ → ℕ → Cell → Cell → Type 0
 Fell ws k x y = (y ≡ fallen (wish ws k) x) × Fallen (place-of x) (place-of y)
+
+-- a table that a granted call of any board may make of xs
+pub record Table-after (w : Write) (xs ys : List Cell) : Type 0 where
+  pub size : length ys ≡ length xs
+  pub places : (k : ℕ) → k < length xs → After line-width w k (place-of (getD xs k blank)) (place-of (getD ys k blank))
+
+-- a table that a power cut of any board may leave of xs
+pub record Table-cut (xs ys : List Cell) : Type 0 where
+  pub size : length ys ≡ length xs
+  pub places : (k : ℕ) → k < length xs → Fallen (place-of (getD xs k blank)) (place-of (getD ys k blank))

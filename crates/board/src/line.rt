@@ -4,14 +4,14 @@ ghost use mathlib.Core.Bool.{cond};
 ghost use Prim.Native.Nat.{ℕ, _*_, _<_};
 ghost use denote.Ref.{now};
 ghost use lib.Dec.{lit≤};
-ghost use lib.ListN.{length, getD};
+ghost use lib.ListN.{length};
 ghost use Rattle.std.specs.Results.{isOk};
 ghost use Rattle.std.specs.declared.option.Option.the-variants.{None};
 ghost use Rattle.model.specs.Places.{Fallen};
 ghost use Rattle.model.specs.Writes.{Cut, store, post, settle};
 ghost use Rattle.board.specs.Calls.{Wrote};
-ghost use Rattle.board.specs.Cells.{place-of, resting, stored, closed, fallen, blank};
-ghost use Rattle.board.specs.Lines.{line-width, line-board, with-line, new-table, stored-table, posted-table, settled-table, cut-table};
+ghost use Rattle.board.specs.Cells.{place-of, resting, stored, closed, fallen};
+ghost use Rattle.board.specs.Lines.{line-width, line-board, with-line, new-table, stored-table, posted-table, settled-table, cut-table, Table-after, Table-cut};
 use crate::Board;
 use crate::Slip;
 use crate::faults::BoardFault;
@@ -108,9 +108,30 @@ fn mark_line(cells: &mut [Cell], line: usize, posted: bool)
     }
 }
 
+// Stores a byte.
+fn store_cell(cells: &mut [Cell], place: usize, byte: u8)
+    requires { ⌜ place < length (now cells) ⌝ }
+    ensures table { λ _. ⌜ now (cells .exit) ≡ stored-table place byte (now (cells .entry)) ⌝ }
+    ensures may { λ _. ⌜ Table-after (store place byte) (now (cells .entry)) (now (cells .exit)) ⌝ }
+{
+    let cell = cells[place].stored(byte);
+    mark_line(cells, place / WIDTH, false);
+    cells[place] = cell;
+}
+
+// Posts a line.
+fn post_cells(cells: &mut [Cell], line: usize)
+    requires { ⌜ line * 64 < length (now cells) ⌝ }
+    ensures table { λ _. ⌜ now (cells .exit) ≡ posted-table line (now (cells .entry)) ⌝ }
+    ensures may { λ _. ⌜ Table-after (post line) (now (cells .entry)) (now (cells .exit)) ⌝ }
+{
+    mark_line(cells, line, true);
+}
+
 // Settles what is posted.
 fn settle_cells(cells: &mut [Cell])
-    ensures { λ _. ⌜ now (cells .exit) ≡ settled-table (now (cells .entry)) ⌝ }
+    ensures table { λ _. ⌜ now (cells .exit) ≡ settled-table (now (cells .entry)) ⌝ }
+    ensures may { λ _. ⌜ Table-after settle (now (cells .entry)) (now (cells .exit)) ⌝ }
 {
     for i in 0..cells.len() {
         let cell = cells[i].closed();
@@ -120,8 +141,8 @@ fn settle_cells(cells: &mut [Cell])
 
 // What a power cut leaves of each cell.
 fn cut_cells(cells: &mut [Cell], wanted: &[u8])
-    ensures exact { λ _. ⌜ now (cells .exit) ≡ cut-table (now (wanted .entry)) (now (cells .entry)) ⌝ }
-    ensures may { λ _. ⌜ ((k : ℕ) → k < length (now (cells .entry)) → Fallen (place-of (getD (now (cells .entry)) k blank)) (place-of (getD (now (cells .exit)) k blank))) ⌝ }
+    ensures table { λ _. ⌜ now (cells .exit) ≡ cut-table (now (wanted .entry)) (now (cells .entry)) ⌝ }
+    ensures may { λ _. ⌜ Table-cut (now (cells .entry)) (now (cells .exit)) ⌝ }
 {
     for i in 0..cells.len() {
         let cell = cells[i].fallen(wanted.get(i).copied());
@@ -188,9 +209,7 @@ pub impl Board for LineBoard<'_> as Lined {
             return Err(BoardFault::Outside { given: place });
         }
         self.supply = draw(self.supply)?;
-        let cell = self.cells[place].stored(byte);
-        mark_line(self.cells, place / WIDTH, false);
-        self.cells[place] = cell;
+        store_cell(self.cells, place, byte);
         Ok(())
     }
 
@@ -202,7 +221,7 @@ pub impl Board for LineBoard<'_> as Lined {
             return Err(BoardFault::Outside { given: line });
         }
         self.supply = draw(self.supply)?;
-        mark_line(self.cells, line, true);
+        post_cells(self.cells, line);
         Ok(())
     }
 

@@ -12,8 +12,9 @@ pub loop-i-again : need.loop-i-again
 loop-i-again c = swept-more (Fell (c .args .wanted .now)) _ _ _ _ _ (omega arith) (omega arith) (c .loop-i .inv) (search needs, c .fallen-cell .ensures .may)
 
 pub returns : need.returns
-returns c = let s = c .loop-i .inv in
+returns c =
+    let s = c .loop-i .inv in
     record {
-      exact = swept-all (λ k x. fallen (wish (c .args .wanted .now) k) x) (Fell (c .args .wanted .now)) _ _ _ (λ k x y e. e .0) (omega arith) s;
-      may = λ k h. s .done k (omega arith) (omega arith) .1;
+      table = swept-all (λ k x. fallen (wish (c .args .wanted .now) k) x) (Fell (c .args .wanted .now)) _ _ _ (λ k x y e. e .0) (omega arith) s;
+      may = record { size = s .long; places = λ k h. s .done k (omega arith) (omega arith) .1 };
     }

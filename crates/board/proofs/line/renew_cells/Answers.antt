@@ -1,4 +1,4 @@
-use mathlib.Core.Path.{refl, _∙_}
+use mathlib.Core.Path.{_∙_}
 use native.Mathlib.Omega.{arith}
 use Rattle.board.specs.Cells.{resting}
 use Rattle.board.proofs.Sweeps.{By, swept-none, swept-more, swept-all, each-map}

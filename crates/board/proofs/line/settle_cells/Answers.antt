@@ -1,6 +1,9 @@
-use mathlib.Core.Path.{refl, _∙_}
+use mathlib.Core.Path.{_≡_, sym, subst, _∙_}
 use native.Mathlib.Omega.{arith}
 use Rattle.board.specs.Cells.{closed}
+use Rattle.model.specs.Writes.{settle}
+use Rattle.board.specs.Lines.{settled-table, Table-after}
+use Rattle.board.proofs.Tables.{settled-may}
 use Rattle.board.proofs.Sweeps.{By, swept-none, swept-more, swept-all, each-map}
 use Rattle.board.proofs.line.settle_cells.Needs as need
 
@@ -11,4 +14,8 @@ pub loop-i-again : need.loop-i-again
 loop-i-again c = swept-more (By (λ _ c. closed c)) _ _ _ _ _ (omega arith) (omega arith) (c .loop-i .inv) (c .closed-cell .ensures)
 
 pub returns : need.returns
-returns c = swept-all (λ _ c. closed c) (By (λ _ c. closed c)) _ _ _ (λ k x y e. e) (omega arith) (c .loop-i .inv) ∙ each-map (λ c. closed c) 0 (c .args .cells .now)
+returns c =
+    let cs = c .args .cells .now in
+    let table : c .loop-i .cells ≡ settled-table cs =
+        swept-all (λ _ x. closed x) (By (λ _ x. closed x)) _ _ _ (λ k x y e. e) (omega arith) (c .loop-i .inv) ∙ each-map closed 0 cs in
+    record { table = table; may = subst (Table-after settle cs) (sym table) (settled-may cs) }
