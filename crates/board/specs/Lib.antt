@@ -2,3 +2,4 @@ pub mod Faults
 pub mod Calls
 pub mod Cells
 pub mod Lines
+pub mod Through

@@ -6,6 +6,7 @@ ghost use Rattle.board.specs.Calls.{Wrote, Answered};
 
 pub mod faults;
 pub mod line;
+pub mod through;
 mod supply;
 
 use faults::BoardFault;
