@@ -1,2 +1,3 @@
 mod Sweeps
 mod Tables
+mod Progress

@@ -3,3 +3,4 @@ pub mod Calls
 pub mod Cells
 pub mod Lines
 pub mod Through
+pub mod Rounds

@@ -7,6 +7,7 @@ ghost use Rattle.board.specs.Calls.{Wrote, Answered};
 pub mod faults;
 pub mod line;
 pub mod through;
+pub mod rounds;
 mod supply;
 
 use faults::BoardFault;

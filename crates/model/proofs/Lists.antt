@@ -4,12 +4,13 @@ use mathlib.Core.Logic.{_⊎_, inl, inr, ⊎-elim}
 use mathlib.Core.List.{List, [], _∷_, _++_}
 use Prim.Native.Nat.{ℕ, zero, suc, _+_, _-_, _/_, _<_, _≤_}
 use native.Mathlib.Omega.{arith}
-use lib.ListN.{length, take}
+use lib.ListN.{length, take, getD}
 use Rattle.std.proofs.shelf.Tests.{cases-lt}
+use Rattle.std.proofs.shelf.Lists.{take-more, take-all, length-take-le, length-append, take-append-le}
 use Rattle.std.specs.declared.option.Option.{Option}
 use Rattle.std.specs.declared.option.Option.the-variants.{Some, None}
 use Rattle.model.specs.Places.{Place, settled}
-use Rattle.model.specs.Writes.{Meaning, bytes, Write, store, post, settle, spent, Granted, Cut, Ran, Spares, Spared, Spared-line, rewritten}
+use Rattle.model.specs.Writes.{Meaning, bytes, Write, store, post, settle, spent, Granted, Cut, Ran, Broken, Spares, Spared, Spared-line, rewritten}
 use Rattle.model.specs.Laws.{Once, Bears, Stored-lasts, Once-falls, Ran-bears}
 use Rattle.model.proofs.Places.{Steady, holds, Rests, rests-steady, Shows, shows-steady, Ready, Either, either-steady, store-shows, store-either, post-ready, stays-ready, settle-rests, cut-either, bytes-follow}
 
@@ -115,3 +116,52 @@ written (w ∷ ws) xs = written ws (rewritten w xs)
 pub ran-bytes : (L : ℕ) (ws : List Write) (m n : Meaning) → Ran L ws m n → bytes n ≡ written ws (bytes m)
 ran-bytes L [] m n e = ap bytes e
 ran-bytes L (w ∷ ws) m n r = ran-bytes L ws (r .0) n (r .2) ∙ ap (written ws) (bytes-follow L w m (r .0) (r .1))
+
+-- how far a list has come: one call more, and the end of the power
+pub ran-next : (L : ℕ) (ws : List Write) (i : ℕ) (w : Write) (m n o : Meaning) → i < length ws → getD ws i settle ≡ w → Ran L (take i ws) m n → Granted L w n o → Ran L (take (i + 1) ws) m o
+ran-next L ws i w m n o lt e r g =
+    let longer : take (i + 1) ws ≡ take i ws ++ (w ∷ []) = take-more ws i settle lt ∙ ap (λ v. take i ws ++ (v ∷ [])) e in
+    subst (λ vs. Ran L vs m o) (sym longer) (ran-join L (take i ws) (w ∷ []) m n o r (o, g, refl))
+
+bears-back : (k j : ℕ) (s : Option ℕ) → Bears k s (Some j) → s ≡ Some (k + j)
+bears-back k j None e = let z : _≡_ {A = ℕ} 0 1 = cc in absurd (omega arith)
+bears-back k j (Some s) h =
+    let d : j ≡ s - k = cc in
+    let e : s ≡ k + j = omega (arith, h .0) in ap Some e
+
+-- the supply at the start, from what is left of it
+pub ran-back : (L : ℕ) (ws : List Write) (j : ℕ) (m n : Meaning) → Ran L ws m n → n .supply ≡ Some j → m .supply ≡ Some (length ws + j)
+ran-back L ws j m n r e = bears-back (length ws) j (m .supply) (subst (Bears (length ws) (m .supply)) e (ran-bears L ws m n r .1))
+
+pub ran-broken : (L : ℕ) (ws : List Write) (i : ℕ) (m n : Meaning) → i < length ws → Ran L (take i ws) m n → n .supply ≡ Some 0 → Broken L ws m i n
+ran-broken L ws i m n lt r e =
+    let long : length (take i ws) + 0 ≡ i = omega (arith, length-take-le i ws (omega arith)) in
+    record { short = lt; supply = ran-back L (take i ws) 0 m n r e ∙ ap Some long; ran = r }
+
+pub broken-first : (L : ℕ) (us vs : List Write) (k : ℕ) (m n : Meaning) → Broken L us m k n → Broken L (us ++ vs) m k n
+broken-first L us vs k m n b =
+    record {
+      short = omega (arith, length-append us vs, b .short);
+      supply = b .supply;
+      ran = subst (λ ws. Ran L ws m n) (sym (take-append-le k us vs (omega (arith, b .short)))) (b .ran);
+    }
+
+take-past : (us vs : List Write) (k : ℕ) → take (length us + k) (us ++ vs) ≡ us ++ take k vs
+take-past [] vs k = let e : 0 + k ≡ k = omega arith in ap (λ j. take j vs) e
+take-past (u ∷ us) vs k =
+    let e : suc (length us) + k ≡ suc (length us + k) = omega arith in
+    ap (λ j. take j (u ∷ (us ++ vs))) e ∙ ap (λ ws. u ∷ ws) (take-past us vs k)
+
+pub broken-then : (L : ℕ) (us vs : List Write) (k : ℕ) (m n o : Meaning) → Ran L us m n → Broken L vs n k o → Broken L (us ++ vs) m (length us + k) o
+broken-then L us vs k m n o r b =
+    record {
+      short = omega (arith, length-append us vs, b .short);
+      supply = ran-back L us k m n r (b .supply);
+      ran = subst (λ ws. Ran L ws m o) (sym (take-past us vs k)) (ran-join L us (take k vs) m n o r (b .ran));
+    }
+
+pub ran-all : (L : ℕ) (ws : List Write) (i : ℕ) (m n : Meaning) → length ws ≤ i → Ran L (take i ws) m n → Ran L ws m n
+ran-all L ws i m n le r = subst (λ vs. Ran L vs m n) (take-all i ws le) r
+
+pub ran-at : (L : ℕ) (ws : List Write) (i j : ℕ) (m n : Meaning) → i ≡ j → Ran L (take i ws) m n → Ran L (take j ws) m n
+ran-at L ws i j m n e r = subst (λ k. Ran L (take k ws) m n) e r

@@ -127,3 +127,23 @@ round-writes L (suc k) p (b ∷ bs) xs = stores-write (suc k) p (b ∷ bs) (p / 
 
 pub round-bytes : Round-bytes
 round-bytes L p bs k m n r = ran-bytes L (take k (round L p bs)) m n r ∙ round-writes L k p bs (bytes m)
+
+-- which call of a round comes when
+pub length-stores : (p : ℕ) (bs : List ℕ) → length (stores p bs) ≡ length bs
+length-stores p [] = refl
+length-stores p (b ∷ bs) = ap suc (length-stores (suc p) bs)
+
+pub length-posts : (l n : ℕ) → length (posts l n) ≡ n
+length-posts l zero = refl
+length-posts l (suc n) = ap suc (length-posts (suc l) n)
+
+pub getD-stores : (p : ℕ) (bs : List ℕ) (k : ℕ) → k < length bs → getD (stores p bs) k settle ≡ store (p + k) (getD bs k 0)
+getD-stores p [] k lt = absurd (omega arith)
+getD-stores p (b ∷ bs) zero lt = let e : p ≡ p + 0 = omega arith in ap (λ q. store q b) e
+getD-stores p (b ∷ bs) (suc k) lt =
+    let e : suc p + k ≡ p + suc k = omega arith in getD-stores (suc p) bs k (omega arith) ∙ ap (λ q. store q (getD bs k 0)) e
+
+pub getD-posts : (l n k : ℕ) → k < n → getD (posts l n) k settle ≡ post (l + k)
+getD-posts l zero k lt = absurd (omega arith)
+getD-posts l (suc n) zero lt = let e : l ≡ l + 0 = omega arith in ap post e
+getD-posts l (suc n) (suc k) lt = let e : suc l + k ≡ l + suc k = omega arith in getD-posts (suc l) n k (omega arith) ∙ ap post e
