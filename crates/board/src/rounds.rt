@@ -3,8 +3,9 @@ ghost use mathlib.Core.Path.{_≡_};
 ghost use mathlib.Core.List.{_++_};
 ghost use Prim.Native.Nat.{ℕ, _+_, _-_, _*_, _/_, _^_, _<_, _≤_};
 ghost use lib.ListN.{length};
+ghost use Rattle.std.specs.Results.{Cases};
 ghost use Rattle.model.specs.Rounds.{stores, posts, lines};
-ghost use Rattle.board.specs.Rounds.{Carried, Round};
+ghost use Rattle.board.specs.Rounds.{Carried, Whole, Cut-short, Round};
 use crate::Board;
 use crate::Slip;
 use crate::faults::BoardFault;
@@ -36,7 +37,7 @@ fn store_bytes<B: Board>(board: &mut B, at: usize, bytes: &[u8]) -> Result<u64, 
 }
 
 // Posts the lines from `first` to before `end`.
-fn post_lines<B: Board>(board: &mut B, first: usize, end: usize, slip: &Slip) -> Result<u64, Stopped>
+fn post_range<B: Board>(board: &mut B, first: usize, end: usize, slip: &Slip) -> Result<u64, Stopped>
     requires { ⌜ first ≤ end ⌝ ∗ ⌜ ((l : ℕ) → l < end → l * width < meaning (now board) .size) ⌝ }
     ensures { λ r. ⌜ Carried width (posts first (end - first)) (meaning (now (board .entry))) r (meaning (now (board .exit))) ⌝ }
 {
@@ -52,4 +53,70 @@ fn post_lines<B: Board>(board: &mut B, first: usize, end: usize, slip: &Slip) ->
         }
     }
     Ok((end - first) as u64)
+}
+
+// Posts each line that holds one of `count` places from `at` on: at most as many lines as places.
+fn post_lines<B: Board>(board: &mut B, at: usize, count: usize, slip: &Slip) -> Result<u64, Stopped>
+    requires { ⌜ 0 < count ⌝ ∗ ⌜ at + count ≤ meaning (now board) .size ⌝ ∗ ⌜ at + count < 2 ^ 64 ⌝ }
+    ensures carried { λ r. ⌜ Carried width (posts (at / width) (lines width at count)) (meaning (now (board .entry))) r (meaning (now (board .exit))) ⌝ }
+    ensures few { λ _. ⌜ lines width at count ≤ count ⌝ }
+{
+    let width = board.line_size();
+    let end = (at + (count - 1)) / width + 1;
+    post_range(board, at / width, end, slip)
+}
+
+// The stores and the posts of a round.
+fn store_and_post<B: Board>(board: &mut B, at: usize, bytes: &[u8], slip: &Slip) -> Result<u64, Stopped>
+    requires { ⌜ 0 < length (now bytes) ⌝ ∗ ⌜ at + length (now bytes) ≤ meaning (now board) .size ⌝ ∗ ⌜ at + length (now bytes) < 2 ^ 64 ⌝ }
+    ensures { λ r. ⌜ Carried width (stores at (now (bytes .entry)) ++ posts (at / width) (lines width at (length (now (bytes .entry))))) (meaning (now (board .entry))) r (meaning (now (board .exit))) ⌝ }
+{
+    let stored = store_bytes(board, at, bytes)?;
+    match post_lines(board, at, bytes.len(), slip) {
+        Ok(posted) => Ok(stored + posted),
+        Err(stopped) => Err(Stopped {
+            carried: stored + stopped.carried,
+            fault: stopped.fault,
+        }),
+    }
+}
+
+// The round of a stretch that lies on the board. Where a store or a post is refused, the power is out, and so is the settle
+// that spends the slip then.
+fn write_fitting<B: Board>(board: &mut B, slip: Slip, at: usize, bytes: &[u8]) -> Result<u64, Stopped>
+    requires { ⌜ 0 < length (now bytes) ⌝ ∗ ⌜ at + length (now bytes) ≤ meaning (now board) .size ⌝ ∗ ⌜ at + length (now bytes) < 2 ^ 64 ⌝ }
+    ensures { λ r. ⌜ Cases r (λ k. Whole width at (now (bytes .entry)) (meaning (now (board .entry))) k (meaning (now (board .exit)))) (λ s. Cut-short width at (now (bytes .entry)) (meaning (now (board .entry))) s (meaning (now (board .exit)))) ⌝ }
+{
+    let written = store_and_post(board, at, bytes, &slip);
+    let settled = board.settle(slip);
+    let carried = written?;
+    match settled {
+        Ok(()) => Ok(carried + 1),
+        Err(fault) => Err(Stopped {
+            carried,
+            fault,
+        }),
+    }
+}
+
+// Writes the bytes from `at` on in one round, with the slip that it is given, and answers how many writing calls that took.
+// No bytes take no calls, wherever `at` is.
+pub fn write_round<B: Board>(board: &mut B, slip: Slip, at: usize, bytes: &[u8]) -> Result<u64, Stopped>
+    ensures { λ r. ⌜ Round width at (now (bytes .entry)) (meaning (now (board .entry))) r (meaning (now (board .exit))) ⌝ }
+{
+    if bytes.is_empty() {
+        slip.spend();
+        return Ok(0);
+    }
+    let size = board.size();
+    if at > size || bytes.len() > size - at {
+        slip.spend();
+        return Err(Stopped {
+            carried: 0,
+            fault: BoardFault::Outside {
+                given: at.max(size),
+            },
+        });
+    }
+    write_fitting(board, slip, at, bytes)
 }

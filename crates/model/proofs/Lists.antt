@@ -165,3 +165,10 @@ ran-all L ws i m n le r = subst (λ vs. Ran L vs m n) (take-all i ws le) r
 
 pub ran-at : (L : ℕ) (ws : List Write) (i j : ℕ) (m n : Meaning) → i ≡ j → Ran L (take i ws) m n → Ran L (take j ws) m n
 ran-at L ws i j m n e r = subst (λ k. Ran L (take k ws) m n) e r
+
+-- a list that power ended leaves none
+pub broken-out : (L : ℕ) (ws : List Write) (k : ℕ) (m n : Meaning) → Broken L ws m k n → n .supply ≡ Some 0
+broken-out L ws k m n b =
+    let h : Bears (length (take k ws)) (Some k) (n .supply) = subst (λ s. Bears (length (take k ws)) s (n .supply)) (b .supply) (ran-bears L (take k ws) m n (b .ran) .1) in
+    let none : k - length (take k ws) ≡ 0 = omega (arith, length-take-le k ws (omega (arith, b .short))) in
+    h .1 ∙ ap Some none

@@ -1,7 +1,7 @@
 -- A round of writing, whole and cut off after any number of calls.
 use mathlib.Core.Path.{_≡_, refl, sym, ap, subst, _∙_}
 use mathlib.Core.Logic.{_⊎_, inl, inr, ⊎-elim}
-use mathlib.Core.List.{List, [], _∷_, _++_}
+use mathlib.Core.List.{List, [], _∷_, _++_, append-assoc}
 use Prim.Native.Nat.{ℕ, zero, suc, _+_, _-_, _/_, _<_, _≤_}
 use native.Mathlib.Omega.{arith}
 use native.Mathlib.Nat.{mul-le-mul-right}
@@ -147,3 +147,13 @@ pub getD-posts : (l n k : ℕ) → k < n → getD (posts l n) k settle ≡ post 
 getD-posts l zero k lt = absurd (omega arith)
 getD-posts l (suc n) zero lt = let e : l ≡ l + 0 = omega arith in ap post e
 getD-posts l (suc n) (suc k) lt = let e : suc l + k ≡ l + suc k = omega arith in getD-posts (suc l) n k (omega arith) ∙ ap post e
+
+-- a round of bytes: its stores and posts, and then its settle
+pub round-parts : (L p : ℕ) (bs : List ℕ) → 0 < length bs → (stores p bs ++ posts (p / L) (lines L p (length bs))) ++ (settle ∷ []) ≡ round L p bs
+unfolding round
+round-parts L p [] lt = absurd (omega arith)
+round-parts L p (b ∷ bs) lt = append-assoc (stores p (b ∷ bs)) (posts (p / L) (lines L p (length (b ∷ bs)))) (settle ∷ [])
+
+pub round-none : (L p : ℕ) → round L p [] ≡ []
+unfolding round
+round-none L p = refl

@@ -3,7 +3,7 @@ use Prim.Native.Nat.{_-_}
 use lib.ListN.{take}
 use Rattle.model.specs.Writes.{Ran}
 use Rattle.model.specs.Rounds.{posts}
-use Rattle.board.proofs.rounds.post_lines.Given as given
+use Rattle.board.proofs.rounds.post_range.Given as given
 
 abbrev pub Inv-loop-line : given.InvT-loop-line
 Inv-loop-line g l =
