@@ -7,8 +7,8 @@ ghost use lib.Dec.{lit≤};
 ghost use lib.ListN.{length};
 ghost use Rattle.std.specs.Results.{isOk};
 ghost use Rattle.std.specs.declared.option.Option.the-variants.{None};
-ghost use Rattle.model.specs.Places.{Fallen};
-ghost use Rattle.model.specs.Writes.{Cut, store, post, settle};
+ghost use Rattle.model.specs.Places.{Fallen, is-loose};
+ghost use Rattle.model.specs.Writes.{Cut, loose-at, store, post, settle};
 ghost use Rattle.board.specs.Calls.{Wrote};
 ghost use Rattle.board.specs.Cells.{place-of, resting, stored, closed, fallen};
 ghost use Rattle.board.specs.Lines.{line-width, line-board, with-line, new-table, stored-table, posted-table, settled-table, cut-table, Table-after, Table-cut};
@@ -47,6 +47,15 @@ impl Cell {
             settled: byte,
             stores: Stores::Never,
             posted: false,
+        }
+    }
+
+    fn is_loose(self) -> bool
+        ensures { λ r. ⌜ r ≡ is-loose (place-of self) ⌝ }
+    {
+        match self.stores {
+            Stores::Never => false,
+            _ => true,
         }
     }
 
@@ -177,6 +186,13 @@ impl<'a> LineBoard<'a> {
             supply: None,
         }
     }
+
+    // Whether a place is loose; one past the end is not.
+    pub fn is_loose(&self, place: usize) -> bool
+        ensures { λ r. ⌜ r ≡ loose-at (line-board (now (self .entry))) place ⌝ }
+    {
+        place < self.size() && self.cells[place].is_loose()
+    }
 }
 
 pub impl Board for LineBoard<'_> as Lined {
@@ -195,7 +211,7 @@ pub impl Board for LineBoard<'_> as Lined {
     }
 
     fn read(&self, place: usize) -> Result<u8, BoardFault> {
-        if place < self.cells.len() {
+        if place < self.size() {
             Ok(self.cells[place].present)
         } else {
             Err(BoardFault::Outside { given: place })
@@ -205,7 +221,7 @@ pub impl Board for LineBoard<'_> as Lined {
     fn store(&mut self, place: usize, byte: u8) -> Result<(), BoardFault>
         ensures { λ r. ⌜ Wrote line-width (store place byte) (line-board (now (self .entry))) r (line-board (now (self .exit))) ⌝ ∗ ⌜ now (now (self .exit) .cells) ≡ cond (isOk r) (stored-table place byte (now (now (self .entry) .cells))) (now (now (self .entry) .cells)) ⌝ }
     {
-        if place >= self.cells.len() {
+        if place >= self.size() {
             return Err(BoardFault::Outside { given: place });
         }
         self.supply = draw(self.supply)?;
@@ -216,7 +232,7 @@ pub impl Board for LineBoard<'_> as Lined {
     fn post(&mut self, line: usize, slip: &Slip) -> Result<(), BoardFault>
         ensures { λ r. ⌜ Wrote line-width (post line) (line-board (now (self .entry))) r (line-board (now (self .exit))) ⌝ ∗ ⌜ now (now (self .exit) .cells) ≡ cond (isOk r) (posted-table line (now (now (self .entry) .cells))) (now (now (self .entry) .cells)) ⌝ }
     {
-        let size = self.cells.len();
+        let size = self.size();
         if size == 0 || line > (size - 1) / WIDTH {
             return Err(BoardFault::Outside { given: line });
         }

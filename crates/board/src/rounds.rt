@@ -22,8 +22,8 @@ fn store_bytes<B: Board>(board: &mut B, at: usize, bytes: &[u8]) -> Result<u64, 
     requires { ⌜ at + length (now bytes) ≤ meaning (now board) .size ⌝ ∗ ⌜ at + length (now bytes) < 2 ^ 64 ⌝ }
     ensures { λ r. ⌜ Carried width (stores at (now (bytes .entry))) (meaning (now (board .entry))) r (meaning (now (board .exit))) ⌝ }
 {
-    for (i, byte) in bytes.iter().enumerate() {
-        match board.store(at + i, *byte) {
+    for i in 0..bytes.len() {
+        match board.store(at + i, bytes[i]) {
             Ok(()) => {}
             Err(fault) => {
                 return Err(Stopped {

@@ -51,7 +51,7 @@ pub impl Board for ThroughBoard<'_> as Through {
     }
 
     fn read(&self, place: usize) -> Result<u8, BoardFault> {
-        if place < self.bytes.len() {
+        if place < self.size() {
             Ok(self.bytes[place])
         } else {
             Err(BoardFault::Outside { given: place })
@@ -61,7 +61,7 @@ pub impl Board for ThroughBoard<'_> as Through {
     fn store(&mut self, place: usize, byte: u8) -> Result<(), BoardFault>
         ensures { λ r. ⌜ Wrote through-width (store place byte) (through-board (now (self .entry))) r (through-board (now (self .exit))) ⌝ ∗ ⌜ now (now (self .exit) .bytes) ≡ cond (isOk r) (set (now (now (self .entry) .bytes)) place byte) (now (now (self .entry) .bytes)) ⌝ }
     {
-        if place >= self.bytes.len() {
+        if place >= self.size() {
             return Err(BoardFault::Outside { given: place });
         }
         self.supply = draw(self.supply)?;
@@ -72,7 +72,7 @@ pub impl Board for ThroughBoard<'_> as Through {
     fn post(&mut self, line: usize, slip: &Slip) -> Result<(), BoardFault>
         ensures { λ r. ⌜ Wrote through-width (post line) (through-board (now (self .entry))) r (through-board (now (self .exit))) ⌝ ∗ ⌜ now (now (self .exit) .bytes) ≡ now (now (self .entry) .bytes) ⌝ }
     {
-        if line >= self.bytes.len() {
+        if line >= self.size() {
             return Err(BoardFault::Outside { given: line });
         }
         self.supply = draw(self.supply)?;

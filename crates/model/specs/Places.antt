@@ -18,6 +18,10 @@ abbrev pub present : Place → ℕ
 present (settled a) = a
 present (loose a old posted) = a
 
+abbrev pub is-loose : Place → Bool
+is-loose (settled a) = false
+is-loose (loose a old posted) = true
+
 -- the place with its posting set; a settled one has none
 abbrev pub marked : Bool → Place → Place
 marked v (settled a) = settled a

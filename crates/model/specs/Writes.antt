@@ -1,13 +1,14 @@
 -- What a board means, and what its writing calls and a power cut do to that meaning.
 use mathlib.Core.Path.{_≡_}
-use mathlib.Core.Bool.{true, false}
+use mathlib.Core.Bool.{Bool, true, false, _&&_}
 use mathlib.Core.List.{List, [], _∷_, map}
 use Prim.Native.Nat.{ℕ, _-_, _*_, _/_, _<_, _≤_}
+use lib.Dec.{ltb}
 use lib.ListN.{length, take, set}
 use Rattle.std.specs.Iters.{counting}
 use Rattle.std.specs.declared.option.Option.{Option}
 use Rattle.std.specs.declared.option.Option.the-variants.{Some, None}
-use Rattle.model.specs.Places.{Place, present, marked, Kept, Stored, Closed, Fallen}
+use Rattle.model.specs.Places.{Place, present, is-loose, marked, Kept, Stored, Closed, Fallen}
 
 -- size is the number of places, N; supply is the number of writing calls that the power still carries, None without limit.
 -- The line of place p is p / L, where L belongs to the make of board and stands beside the meaning.
@@ -19,6 +20,10 @@ pub record Meaning : Type 0 where
 -- the present bytes
 abbrev pub bytes : Meaning → List ℕ
 bytes m = map (λ k. present (m .at k)) (counting 0 (m .size))
+
+-- whether p is a loose place of the board
+abbrev pub loose-at : Meaning → ℕ → Bool
+loose-at m p = ltb p (m .size) && is-loose (m .at p)
 
 -- the writing calls: a byte at a place, a line, all that is posted
 pub data Write : Type 0 where
