@@ -1,0 +1,47 @@
+use crate::any::ends;
+use crate::any::no_places;
+use crate::any::rounds;
+use crate::any::supplies;
+use board::Board;
+use board::faults::BoardFaultDebug;
+use board::faults::BoardFaultPartialEq;
+use board::through::Through;
+use board::through::ThroughBoard;
+use std::test::*;
+
+#[test]
+fn through_ends() -> Result<(), Fail> {
+    let mut bytes = [0; 70];
+    let mut board = ThroughBoard::over(&mut bytes);
+    check_eq(board.line_size(), 1)?;
+    ends(&mut board, 70, 70)
+}
+
+#[test]
+fn through_no_places() -> Result<(), Fail> {
+    let mut bytes = [];
+    no_places(&mut ThroughBoard::over(&mut bytes))
+}
+
+#[test]
+fn through_supplies() -> Result<(), Fail> {
+    let mut bytes = [0; 70];
+    supplies(&mut ThroughBoard::over(&mut bytes), 70)
+}
+
+#[test]
+fn through_rounds() -> Result<(), Fail> {
+    let mut bytes = [0; 70];
+    rounds(&mut ThroughBoard::over(&mut bytes), 70, 7)
+}
+
+// A stored byte lasts at once, whatever the cut wants.
+#[test]
+fn through_keeps() -> Result<(), Fail> {
+    let mut bytes = [5; 3];
+    let mut board = ThroughBoard::over(&mut bytes);
+    check_eq(board.store(1, 6), Ok(()))?;
+    board.cut(&[9, 9, 9], None);
+    check_eq(board.read(0), Ok(5))?;
+    check_eq(board.read(1), Ok(6))
+}

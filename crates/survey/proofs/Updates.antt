@@ -1,0 +1,69 @@
+-- The record through its update and a power cut, by the laws of boards.
+use mathlib.Core.Path.{_≡_, refl, sym, ap, subst, _∙_}
+use mathlib.Core.Logic.{_⊎_, inl, inr, ⊎-elim}
+use mathlib.Core.List.{List}
+use Prim.Native.Nat.{ℕ, min, _+_, _<_, _≤_}
+use native.Mathlib.Omega.{arith}
+use native.Mathlib.Nat.{min-eq-right}
+use lib.ListN.{length, take, getD}
+use Rattle.std.proofs.shelf.Lists.{take-all}
+use Rattle.std.specs.declared.option.Option.{Option}
+use Rattle.std.specs.declared.option.Option.the-variants.{Some, None}
+use Rattle.std.specs.declared.result.Result.{Result}
+use Rattle.std.specs.declared.result.Result.the-variants.{Ok, Err}
+use Rattle.model.specs.Places.{settled, present}
+use Rattle.model.specs.Writes.{Meaning, Cut, Ran}
+use Rattle.model.specs.Rounds.{round}
+use Rattle.model.specs.Laws.{Bears}
+use Rattle.model.proofs.Places.{settled-falls}
+use Rattle.model.proofs.Lists.{ran-size, ran-bears}
+use Rattle.model.proofs.Rounds.{round-lasts, round-falls}
+use Rattle.board.specs.declared.rounds.Stopped.{Stopped}
+use Rattle.board.specs.Rounds.{Round, Whole, Cut-short, Too-long}
+use Rattle.survey.specs.Record.{record-at, record-size, record-end, old-record, new-record, Prepared, Updated, calls, Shown, Old-or-new}
+
+-- a round without limit on a board that is long enough is carried out whole
+unlimited : (L : ℕ) (m n : Meaning) (r : Result ℕ Stopped) → m .supply ≡ None → record-end ≤ m .size → Round L record-at old-record m r n → Ran L (round L record-at old-record) m n
+unlimited L m n (Ok k) free long w = w .ran
+unlimited L m n (Err s) free long (inl c) = let z : _≡_ {A = ℕ} 0 1 = cc (free, c .broken .supply) in absurd (omega arith)
+unlimited L m n (Err s) free long (inr t) = absurd (t .outside long)
+
+pub prepared : (L : ℕ) (s : Option ℕ) (l m n o : Meaning) (r : Result ℕ Stopped) → 1 ≤ L → record-end ≤ l .size → Cut None l m → Round L record-at old-record m r n → Cut s n o → Prepared s o
+prepared L s l m n o r some long first round second =
+    let ran = unlimited L m n r (first .supply) (subst (λ k. record-end ≤ k) (sym (first .size)) long) round in
+    let size : record-end ≤ n .size = subst (λ k. record-end ≤ k) (sym (ran-size L _ m n ran ∙ first .size)) long in
+    record {
+      size = subst (λ k. record-end ≤ k) (sym (second .size)) size;
+      supply = second .supply;
+      places = λ k lt. settled-falls (record-at + k) _ n o s (omega arith) (round-lasts L record-at old-record k m n some lt ran) second;
+    }
+
+bears-calls : (L : ℕ) (s t : Option ℕ) → Bears (length (round L record-at new-record)) s t → length (round L record-at new-record) ≡ calls L s
+bears-calls L None t h = refl
+bears-calls L (Some s) t h = sym (min-eq-right (h .0))
+
+-- the whole round was carried out
+pub updated-calls : (L k : ℕ) (s : Option ℕ) (m n : Meaning) → Prepared s m → Whole L record-at new-record m k n → k ≡ calls L s
+updated-calls L k s m n p w =
+    w .count ∙ bears-calls L s (n .supply) (subst (λ t. Bears (length (round L record-at new-record)) t (n .supply)) (p .supply) (ran-bears L _ m n (w .ran) .1))
+
+pub updated-whole : (L k : ℕ) (s : Option ℕ) (m n : Meaning) → Prepared s m → Whole L record-at new-record m k n → Updated L n
+updated-whole L k s m n p w =
+    record {
+      start = m;
+      old = (s, p);
+      done = k;
+      ran = subst (λ ws. Ran L ws m n) (sym (take-all k (round L record-at new-record) (omega (arith, w .count)))) (w .ran);
+    }
+
+-- after a power cut every byte of the record is old or new
+pub found-either : (L : ℕ) (m n : Meaning) (t : Option ℕ) (r : List ℕ) → Updated L m → Cut t m n → Shown n r → Old-or-new r
+found-either L m n t r u c shown k lt =
+    let start = u .start in
+    let p = u .old .1 in
+    let new = getD new-record k 0 in
+    let either = round-falls L record-at new-record (u .done) k (getD old-record k 0) start m n t lt (omega (arith, p .size)) (p .places k lt) (u .ran) c in
+    ⊎-elim (λ e. inl (shown .bytes k lt ∙ ap present e)) (λ e. inr (shown .bytes k lt ∙ ap present e)) either
+
+pub updated-size : (L : ℕ) (m : Meaning) → Updated L m → record-end ≤ m .size
+updated-size L m u = subst (λ k. record-end ≤ k) (sym (ran-size L _ (u .start) m (u .ran))) (u .old .1 .size)

@@ -1,0 +1,70 @@
+-- The record's update, and what may be found of it.
+use mathlib.Core.Path.{_≡_}
+use mathlib.Core.Logic.{_⊎_}
+use mathlib.Core.Bool.{Bool, true, false}
+use mathlib.Core.List.{List}
+use Prim.Native.Nat.{ℕ, min, _+_, _<_, _≤_}
+use lib.Chars.{codes}
+use lib.ListN.{length, take, getD}
+use Rattle.std.specs.declared.option.Option.{Option}
+use Rattle.std.specs.declared.option.Option.the-variants.{Some, None}
+use Rattle.model.specs.Places.{settled, present}
+use Rattle.model.specs.Writes.{Meaning, Ran}
+use Rattle.model.specs.Rounds.{round}
+
+-- the record's first place, its length, and the place behind it
+abbrev pub record-at : ℕ
+record-at = 60
+
+abbrev pub record-size : ℕ
+record-size = 8
+
+abbrev pub record-end : ℕ
+record-end = 68
+
+abbrev pub old-record : List ℕ
+old-record = codes "old-vote"
+
+abbrev pub new-record : List ℕ
+new-record = codes "NEW+VOTE"
+
+-- the old record is settled, and the power carries s
+pub record Prepared (s : Option ℕ) (m : Meaning) : Type 0 where
+  pub size : record-end ≤ m .size
+  pub supply : m .supply ≡ s
+  pub places : (k : ℕ) → k < record-size → m .at (record-at + k) ≡ settled (getD old-record k 0)
+
+-- the first calls of the round that writes the new record over the old one were carried out
+pub record Updated (L : ℕ) (n : Meaning) : Type 0 where
+  pub start : Meaning
+  pub old : (s : Option ℕ) × Prepared s start
+  pub done : ℕ
+  pub ran : Ran L (take done (round L record-at new-record)) start n
+
+-- how many calls a supply carries
+abbrev pub calls : ℕ → Option ℕ → ℕ
+calls L None = length (round L record-at new-record)
+calls L (Some s) = min s (length (round L record-at new-record))
+
+-- every byte is the old record's or the new one's
+abbrev pub Old-or-new : List ℕ → Type 0
+Old-or-new r = (k : ℕ) → k < record-size → (getD r k 0 ≡ getD old-record k 0) ⊎ (getD r k 0 ≡ getD new-record k 0)
+
+-- the record's present bytes
+pub record Shown (m : Meaning) (r : List ℕ) : Type 0 where
+  pub size : length r ≡ record-size
+  pub bytes : (k : ℕ) → k < record-size → getD r k 0 ≡ present (m .at (record-at + k))
+
+-- an image of the record in which each byte is that of low or that of high
+pub record Between (low high image : List ℕ) : Type 0 where
+  pub size : length image ≡ record-size
+  pub bytes : (k : ℕ) → k < record-size → (getD image k 0 ≡ getD low k 0) ⊎ (getD image k 0 ≡ getD high k 0)
+
+-- every such image is this record
+abbrev pub Sure : List ℕ → List ℕ → List ℕ → Type 0
+Sure low high r = (image : List ℕ) → Between low high image → image ≡ r
+
+-- x for a loose place, else a dot
+abbrev pub mark : Bool → ℕ
+mark true = 120
+mark false = 46
