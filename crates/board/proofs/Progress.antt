@@ -15,10 +15,10 @@ use Rattle.model.specs.Writes.{Meaning, bytes, Write, store, post, settle, With
 use Rattle.model.specs.Rounds.{stores, posts, lines, round, overwritten}
 use Rattle.model.proofs.Lists.{ran-broken, ran-join, broken-first, broken-then, broken-out}
 use Rattle.model.proofs.Rounds.{length-stores, round-parts, round-bytes}
-use Rattle.board.specs.declared.faults.BoardFault.{BoardFault}
+use Rattle.model.specs.declared.faults.BoardFault.{BoardFault}
 use Rattle.board.specs.declared.rounds.Stopped.{Stopped}
-use Rattle.board.specs.Faults.{Fault}
-use Rattle.board.specs.Calls.{Refused, Wrote}
+use Rattle.model.specs.Faults.{Fault}
+use Rattle.model.specs.Calls.{Refused, Wrote}
 use Rattle.board.specs.Rounds.{Carried, Fits, Whole, Cut-short}
 
 -- a call on the board is refused only for want of power

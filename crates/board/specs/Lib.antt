@@ -1,5 +1,4 @@
-pub mod Faults
-pub mod Calls
+pub mod Supply
 pub mod Cells
 pub mod Lines
 pub mod Through

@@ -9,7 +9,7 @@ use Rattle.std.specs.Results.{Cases}
 use Rattle.model.specs.Writes.{Meaning, bytes, Write, Ran, Broken}
 use Rattle.model.specs.Rounds.{round, overwritten}
 use Rattle.board.specs.declared.rounds.Stopped.{Stopped}
-use Rattle.board.specs.Faults.{Fault}
+use Rattle.model.specs.Faults.{Fault}
 
 -- calls that all lie on the board: carried out, with their number, or ended by the power
 abbrev pub Carried : ℕ → List Write → Meaning → Result ℕ Stopped → Meaning → Type 0

@@ -2,15 +2,14 @@
 ghost use mathlib.Core.Path.{_≡_};
 ghost use Prim.Native.Nat.{ℕ, _<_, _≤_};
 ghost use Rattle.model.specs.Writes.{Meaning, store, post, settle, Cut};
-ghost use Rattle.board.specs.Calls.{Wrote, Answered};
+ghost use Rattle.model.specs.Calls.{Wrote, Answered};
 
-pub mod faults;
 pub mod line;
 pub mod through;
 pub mod rounds;
 mod supply;
 
-use faults::BoardFault;
+use model::faults::BoardFault;
 
 // What a round of writing holds from its posts to its settle. It has no `Drop`, so it has to be spent: by `settle`, or by a
 // round that is given it. Spending is private to this crate.

@@ -9,13 +9,13 @@ ghost use Rattle.std.specs.Results.{isOk};
 ghost use Rattle.std.specs.declared.option.Option.the-variants.{None};
 ghost use Rattle.model.specs.Places.{Fallen, is-loose};
 ghost use Rattle.model.specs.Writes.{Cut, loose-at, store, post, settle};
-ghost use Rattle.board.specs.Calls.{Wrote};
+ghost use Rattle.model.specs.Calls.{Wrote};
 ghost use Rattle.board.specs.Cells.{place-of, resting, stored, closed, fallen};
 ghost use Rattle.board.specs.Lines.{line-width, line-board, with-line, new-table, stored-table, posted-table, settled-table, cut-table, Table-after, Table-cut};
 use crate::Board;
 use crate::Slip;
-use crate::faults::BoardFault;
 use crate::supply::draw;
+use model::faults::BoardFault;
 
 // The places in a line.
 const WIDTH: usize = 64;

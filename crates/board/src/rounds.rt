@@ -8,7 +8,7 @@ ghost use Rattle.model.specs.Rounds.{stores, posts, lines};
 ghost use Rattle.board.specs.Rounds.{Carried, Whole, Cut-short, Round};
 use crate::Board;
 use crate::Slip;
-use crate::faults::BoardFault;
+use model::faults::BoardFault;
 
 // A round that was refused: the board's fault, and how many of the round's writing calls were carried out before it.
 #[derive(Clone, Copy)]

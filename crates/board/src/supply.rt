@@ -1,6 +1,6 @@
 // The supply of writing calls.
-ghost use Rattle.board.specs.Calls.{Drawn};
-use crate::faults::BoardFault;
+ghost use Rattle.board.specs.Supply.{Drawn};
+use model::faults::BoardFault;
 
 // What one writing call leaves of a supply.
 pub(crate) fn draw(supply: Option<u64>) -> Result<Option<u64>, BoardFault>

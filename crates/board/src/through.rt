@@ -7,12 +7,12 @@ ghost use lib.ListN.{set};
 ghost use Rattle.std.specs.Results.{isOk};
 ghost use Rattle.std.specs.declared.option.Option.the-variants.{None};
 ghost use Rattle.model.specs.Writes.{Cut, store, post, settle};
-ghost use Rattle.board.specs.Calls.{Wrote};
+ghost use Rattle.model.specs.Calls.{Wrote};
 ghost use Rattle.board.specs.Through.{through-width, through-board};
 use crate::Board;
 use crate::Slip;
-use crate::faults::BoardFault;
 use crate::supply::draw;
+use model::faults::BoardFault;
 
 // The places in a line.
 const WIDTH: usize = 1;

@@ -1,12 +1,12 @@
 // What every make answers alike. Each function leaves the board without limit.
 use board::Board;
 use board::Slip;
-use board::faults::BoardFault;
-use board::faults::BoardFaultDebug;
-use board::faults::BoardFaultPartialEq;
-use board::faults::Layer;
-use board::faults::LayerDebug;
-use board::faults::LayerPartialEq;
+use model::faults::BoardFault;
+use model::faults::BoardFaultDebug;
+use model::faults::BoardFaultPartialEq;
+use model::faults::Layer;
+use model::faults::LayerDebug;
+use model::faults::LayerPartialEq;
 use board::rounds::write_round;
 use std::test::*;
 

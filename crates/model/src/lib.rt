@@ -2,6 +2,8 @@
 // The definitions are in specs/; this function's contract asks for the proof of their laws.
 ghost use Rattle.model.specs.Laws.{Board-laws};
 
+pub mod faults;
+
 // The laws that every board keeps, whatever its make.
 pub fn board_laws()
     ensures { λ _. ⌜ Board-laws ⌝ }

@@ -1,6 +1,6 @@
 // What a board refuses.
 ghost use mathlib.Core.Path.{_≡_};
-ghost use Rattle.board.specs.Faults.{number, layer, detail};
+ghost use Rattle.model.specs.Faults.{number, layer, detail};
 
 // The layer whose refusal a fault is.
 #[derive(Clone, Copy, PartialEq, Eq, Debug)]

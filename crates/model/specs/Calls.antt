@@ -6,10 +6,10 @@ use Rattle.std.specs.declared.option.Option.{Option}
 use Rattle.std.specs.declared.option.Option.the-variants.{Some, None}
 use Rattle.std.specs.declared.result.Result.{Result}
 use Rattle.std.specs.Results.{Cases}
 use Rattle.model.specs.Places.{present}
 use Rattle.model.specs.Writes.{Meaning, Write, store, post, settle, Within, spent, Granted}
-use Rattle.board.specs.declared.faults.BoardFault.{BoardFault}
-use Rattle.board.specs.Faults.{Fault}
+use Rattle.model.specs.declared.faults.BoardFault.{BoardFault}
+use Rattle.model.specs.Faults.{Fault}
 
 -- the place or line that a writing call is given
 abbrev pub given : Write → ℕ
@@ -29,7 +29,3 @@ Wrote L w m r n = Cases r (λ _. Granted L w m n) (λ e. Refused L w m e × (n �
 -- a read: the present byte, or 2 outside the board, with the place given
 abbrev pub Answered : ℕ → Meaning → Result ℕ BoardFault → Type 0
 Answered p m r = Cases r (λ b. (p < m .size) × (b ≡ present (m .at p))) (λ e. (m .size ≤ p) × Fault 2 p e)
-
--- what one writing call leaves of a supply s, or 1 where none is left
-abbrev pub Drawn : Option ℕ → Result (Option ℕ) BoardFault → Type 0
-Drawn s r = Cases r (λ t. (t ≡ spent s) × (s ≡ Some 0 → ⊥)) (λ e. (s ≡ Some 0) × Fault 1 0 e)

@@ -1,10 +1,10 @@
 -- The number, the layer and the detail of each fault of a board.
 use mathlib.Core.Path.{_≡_}
 use Prim.Native.Nat.{ℕ}
-use Rattle.board.specs.declared.faults.Layer.{Layer}
-use Rattle.board.specs.declared.faults.Layer.the-variants.{Board}
-use Rattle.board.specs.declared.faults.BoardFault.{BoardFault}
-use Rattle.board.specs.declared.faults.BoardFault.the-variants.{NoPower, Outside}
+use Rattle.model.specs.declared.faults.Layer.{Layer}
+use Rattle.model.specs.declared.faults.Layer.the-variants.{Board}
+use Rattle.model.specs.declared.faults.BoardFault.{BoardFault}
+use Rattle.model.specs.declared.faults.BoardFault.the-variants.{NoPower, Outside}
 
 abbrev pub number : BoardFault → ℕ
 number (NoPower carried) = 1
