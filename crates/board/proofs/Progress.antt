@@ -6,7 +6,6 @@ use Prim.Native.Nat.{ℕ, zero, suc, _+_, _-_, _*_, _/_, _<_, _≤_}
 use native.Mathlib.Omega.{arith}
 use native.Mathlib.Nat.{mul-le-mul-right, div-mul-le-self, le-mul-of-pos-right, add-mul-div-right}
 use lib.ListN.{length, take, getD}
-use lib.Ieee.Nearest.{div-mono}
 use Rattle.std.proofs.shelf.Lists.{length-append, take-all}
 use Rattle.std.specs.declared.option.Option.the-variants.{Some}
 use Rattle.std.specs.declared.result.Result.{Result}
@@ -14,7 +13,7 @@ use Rattle.std.specs.declared.result.Result.the-variants.{Ok, Err}
 use Rattle.model.specs.Writes.{Meaning, bytes, Write, store, post, settle, Within, Granted, Ran, Broken}
 use Rattle.model.specs.Rounds.{stores, posts, lines, round, overwritten}
 use Rattle.model.proofs.Lists.{ran-broken, ran-join, broken-first, broken-then, broken-out}
-use Rattle.model.proofs.Rounds.{length-stores, round-parts, round-bytes}
+use Rattle.model.proofs.Rounds.{length-stores, round-parts, round-bytes, line-rises}
 use Rattle.model.specs.declared.faults.BoardFault.{BoardFault}
 use Rattle.board.specs.declared.rounds.Stopped.{Stopped}
 use Rattle.model.specs.Faults.{Fault}
@@ -44,12 +43,10 @@ reached-at : (L p n : ℕ) → 1 ≤ L → Reached L p (suc n) L
 reached-at L p n some =
     let back : suc n - 1 ≡ n = omega arith in
     let end : (p + (suc n - 1)) / L ≡ (p + n) / L = ap (λ k. (p + k) / L) back in
-    let low : p ≤ p + n = omega arith in
-    let mono : p / L ≤ (p + n) / L = div-mono p L (p + n) L some some (mul-le-mul-right L low) in
+    let mono = line-rises L p (p + n) some (omega arith) in
     let wide : n ≤ n * L = le-mul-of-pos-right n some in
-    let more : p + n ≤ p + n * L = omega arith in
     let most : (p + n) / L ≤ p / L + n =
-        subst (λ k. (p + n) / L ≤ k) (add-mul-div-right p n some) (div-mono (p + n) L (p + n * L) L some some (mul-le-mul-right L more)) in
+        subst (λ k. (p + n) / L ≤ k) (add-mul-div-right p n some) (line-rises L (p + n) (p + n * L) some (omega arith)) in
     record {
       first = refl;
       ordered = omega arith;

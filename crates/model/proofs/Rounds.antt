@@ -2,11 +2,10 @@
 use mathlib.Core.Path.{_≡_, refl, sym, ap, subst, _∙_}
 use mathlib.Core.Logic.{_⊎_, inl, inr, ⊎-elim}
 use mathlib.Core.List.{List, [], _∷_, _++_, append-assoc}
-use Prim.Native.Nat.{ℕ, zero, suc, _+_, _-_, _/_, _<_, _≤_}
+use Prim.Native.Nat.{ℕ, zero, suc, _+_, _-_, _*_, _/_, _<_, _≤_}
 use native.Mathlib.Omega.{arith}
-use native.Mathlib.Nat.{mul-le-mul-right}
+use native.Mathlib.Nat.{le-div-iff-mul-le, div-mul-le-self}
 use lib.ListN.{length, take, getD, set}
-use lib.Ieee.Nearest.{div-mono}
 use Rattle.std.proofs.shelf.Tests.{cases-eq}
 use Rattle.std.specs.declared.option.Option.{Option}
 use Rattle.model.specs.Places.{settled}
@@ -88,13 +87,15 @@ posts-settle L q b l (suc n) m o lt le up h r =
         (holds (Shows b) (shows-steady b) L q (post l) m (r .0) (r .1) lt tt h) (r .2))
     (cases-eq l (q / L))
 
+-- a later place lies in no earlier line
+pub line-rises : (L p q : ℕ) → 0 < L → p ≤ q → p / L ≤ q / L
+line-rises L p q some le = let below : p / L * L ≤ q = omega (arith, div-mul-le-self p L) in le-div-iff-mul-le some .1 below
+
 -- the line of the i-th place lies among the lines of all
 line-reached : (L p i n : ℕ) → 0 < L → i < suc n → (p / L ≤ (p + i) / L) × ((p + i) / L < p / L + lines L p (suc n))
 line-reached L p i n some lt =
-    let first : p ≤ p + i = omega arith in
-    let last : p + i ≤ p + n = omega arith in
-    let low : p / L ≤ (p + i) / L = div-mono p L (p + i) L some some (mul-le-mul-right L first) in
-    let high : (p + i) / L ≤ (p + n) / L = div-mono (p + i) L (p + n) L some some (mul-le-mul-right L last) in
+    let low = line-rises L p (p + i) some (omega arith) in
+    let high = line-rises L (p + i) (p + n) some (omega arith) in
     (low, omega arith)
 
 pub round-lasts : Round-lasts
