@@ -46,7 +46,7 @@ reached-at L p n some =
     let mono = line-rises L p (p + n) some (omega arith) in
     let wide : n ≤ n * L = le-mul-of-pos-right n some in
     let most : (p + n) / L ≤ p / L + n =
-        subst (λ k. (p + n) / L ≤ k) (add-mul-div-right p n some) (line-rises L (p + n) (p + n * L) some (omega arith)) in
+    subst (λ k. (p + n) / L ≤ k) (add-mul-div-right p n some) (line-rises L (p + n) (p + n * L) some (omega arith)) in
     record {
       first = refl;
       ordered = omega arith;

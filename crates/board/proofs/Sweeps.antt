@@ -28,14 +28,14 @@ swept-more R a i xs ys v le lt s r =
     let other : (k : ℕ) → k ≢ i → getD (set ys i v) k blank ≡ getD ys k blank = λ k ne. getD-set-other ys i k v blank ne in
     let at : getD (set ys i v) i blank ≡ v = getD-set-same ys i v blank (omega (arith, s .long)) in
     let here : R i (getD xs i blank) (getD (set ys i v) i blank) =
-        subst (R i (getD xs i blank)) (sym at) (subst (λ x. R i x v) (s .ahead i (omega arith)) r) in
+    subst (R i (getD xs i blank)) (sym at) (subst (λ x. R i x v) (s .ahead i (omega arith)) r) in
     record {
       long = length-set ys i v ∙ s .long;
       done = λ k l h.
-        ⊎-elim
-        (λ e. subst (λ j. R j (getD xs j blank) (getD (set ys i v) j blank)) (sym e) here)
-        (λ ne. subst (R k (getD xs k blank)) (sym (other k ne)) (s .done k l (omega arith)))
-        (cases-eq k i);
+          ⊎-elim
+          (λ e. subst (λ j. R j (getD xs j blank) (getD (set ys i v) j blank)) (sym e) here)
+          (λ ne. subst (R k (getD xs k blank)) (sym (other k ne)) (s .done k l (omega arith)))
+          (cases-eq k i);
       before = λ k h. other k (omega arith) ∙ s .before k h;
       ahead = λ k h. other k (omega arith) ∙ s .ahead k (omega arith);
     }
@@ -75,7 +75,7 @@ pub swept-line : (v : Bool) (line a i : ℕ) (xs ys : List Cell) → a ≡ line 
 swept-line v line a i xs ys first most reach s =
     same-each (λ k c. cond (eqb (k / 64) line) (posting v c) c) xs ys (s .long)
     (λ k lt.
-      ⊎-elim
-      (λ e. s .done k (omega arith) (reach k lt (omega arith)) ∙ sym (cond-true _ _ _ (eq-eqb (k / 64) line e)))
-      (λ ne. ⊎-elim (λ l. s .before k l) (λ l. s .ahead k (omega arith)) (cases-lt k a) ∙ sym (cond-false _ _ _ (ne-eqb (k / 64) line ne)))
-      (cases-eq (k / 64) line))
+    ⊎-elim
+    (λ e. s .done k (omega arith) (reach k lt (omega arith)) ∙ sym (cond-true _ _ _ (eq-eqb (k / 64) line e)))
+    (λ ne. ⊎-elim (λ l. s .before k l) (λ l. s .ahead k (omega arith)) (cases-lt k a) ∙ sym (cond-false _ _ _ (ne-eqb (k / 64) line ne)))
+    (cases-eq (k / 64) line))

@@ -11,12 +11,12 @@ use Rattle.std.proofs.shelf.Tests.{cases-eq, cond-true, cond-false, eq-eqb, ne-
 use Rattle.std.proofs.shelf.Lists.{getD-set-same, getD-set-other, length-set, length-map, getD-map}
 use Rattle.std.specs.declared.option.Option.{Option}
 use Rattle.std.specs.declared.option.Option.the-variants.{Some, None}
-use Rattle.model.specs.Places.{Place, settled, loose, marked, Stored, Closed}
+use Rattle.model.specs.Places.{Place, settled, loose, marked, Stored, After-settle}
 use Rattle.model.specs.Writes.{store, post, settle, StoredAt, PostedAt}
 use Rattle.board.specs.declared.line.Cell.{Cell}
 use Rattle.board.specs.declared.line.Stores.{Stores}
 use Rattle.board.specs.declared.line.Stores.the-variants.{Never, Once, More}
-use Rattle.board.specs.Cells.{standing, place-of, blank, resting, posting, stored, stored-over, closed}
+use Rattle.board.specs.Cells.{standing, place-of, blank, settled-at, posting, after-store, store-over, after-settle}
 use Rattle.board.specs.Lines.{with-line, stored-table, posted-table, settled-table, Table-after}
 use Rattle.board.proofs.Sweeps.{length-each, getD-each}
 
@@ -26,18 +26,18 @@ posting-marks Never a s u v = refl
 posting-marks Once a s u v = refl
 posting-marks More a s u v = refl
 
-storing : (st : Stores) (a s b : ℕ) (u : Bool) → Stored b (standing st a s u) (place-of (stored-over st b a s))
+storing : (st : Stores) (a s b : ℕ) (u : Bool) → Stored b (standing st a s u) (place-of (store-over st b a s))
 storing Never a s b u = inl refl
 storing Once a s b u = inl (None, refl)
 storing More a s b u = inl (None, refl)
 
-closing : (st : Stores) (a s : ℕ) (u : Bool) → Closed (standing st a s u) (place-of (cond u (resting a) (record { present = a; settled = s; stores = st; posted = u })))
-closing Never a s true = refl
-closing Never a s false = refl
-closing Once a s true = refl
-closing Once a s false = inl refl
-closing More a s true = refl
-closing More a s false = inl refl
+settling : (st : Stores) (a s : ℕ) (u : Bool) → After-settle (standing st a s u) (place-of (cond u (settled-at a) (record { present = a; settled = s; stores = st; posted = u })))
+settling Never a s true = refl
+settling Never a s false = refl
+settling Once a s true = refl
+settling Once a s false = inl refl
+settling More a s true = refl
+settling More a s false = inl refl
 
 -- a line with its posting set
 line-inside : (v : Bool) (l : ℕ) (cs : List Cell) (k : ℕ) → k < length cs → k / 64 ≡ l → place-of (getD (with-line v l cs) k blank) ≡ marked v (place-of (getD cs k blank))
@@ -59,18 +59,18 @@ stored-may p b cs lt =
     let line = with-line false (p / 64) cs in
     let c = getD cs p blank in
     let other : (k : ℕ) → k ≢ p → place-of (getD (stored-table p b cs) k blank) ≡ place-of (getD line k blank) =
-        λ k ne. ap place-of (getD-set-other line p k (stored b c) blank ne) in
-    let here : place-of (getD (stored-table p b cs) p blank) ≡ place-of (stored b c) =
-        ap place-of (getD-set-same line p (stored b c) blank (subst (λ n. p < n) (sym (length-line false (p / 64) cs)) lt)) in
+    λ k ne. ap place-of (getD-set-other line p k (after-store b c) blank ne) in
+    let here : place-of (getD (stored-table p b cs) p blank) ≡ place-of (after-store b c) =
+    ap place-of (getD-set-same line p (after-store b c) blank (subst (λ n. p < n) (sym (length-line false (p / 64) cs)) lt)) in
     record {
-      size = length-set line p (stored b c) ∙ length-line false (p / 64) cs;
+      size = length-set line p (after-store b c) ∙ length-line false (p / 64) cs;
       places = λ k h.
-        record {
-          here = λ e. subst (λ j. Stored b (place-of (getD cs j blank)) (place-of (getD (stored-table p b cs) j blank))) (sym e)
-            (subst (λ y. Stored b (place-of c) y) (sym here) (storing (c .stores) (c .present) (c .settled) b (c .posted)));
-          beside = λ ne e. inl (other k ne ∙ line-inside false (p / 64) cs k h e);
-          apart = λ ne. inl (other k (λ e. ne (ap (λ j. j / 64) e)) ∙ line-apart false (p / 64) cs k h ne);
-        };
+          record {
+            here = λ e. subst (λ j. Stored b (place-of (getD cs j blank)) (place-of (getD (stored-table p b cs) j blank))) (sym e)
+                (subst (λ y. Stored b (place-of c) y) (sym here) (storing (c .stores) (c .present) (c .settled) b (c .posted)));
+            beside = λ ne e. inl (other k ne ∙ line-inside false (p / 64) cs k h e);
+            apart = λ ne. inl (other k (λ e. ne (ap (λ j. j / 64) e)) ∙ line-apart false (p / 64) cs k h ne);
+          };
     }
 
 pub posted-may : (l : ℕ) (cs : List Cell) → Table-after (post l) cs (posted-table l cs)
@@ -83,8 +83,8 @@ posted-may l cs =
 pub settled-may : (cs : List Cell) → Table-after settle cs (settled-table cs)
 settled-may cs =
     record {
-      size = length-map cs closed;
+      size = length-map cs after-settle;
       places = λ k h.
-        let c = getD cs k blank in
-        subst (λ y. Closed (place-of c) (place-of y)) (sym (getD-map closed cs k blank blank h)) (closing (c .stores) (c .present) (c .settled) (c .posted));
+          let c = getD cs k blank in
+          subst (λ y. After-settle (place-of c) (place-of y)) (sym (getD-map after-settle cs k blank blank h)) (settling (c .stores) (c .present) (c .settled) (c .posted));
     }

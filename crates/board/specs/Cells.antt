@@ -21,41 +21,41 @@ abbrev pub place-of : Cell → Place
 place-of c = standing (c .stores) (c .present) (c .settled) (c .posted)
 
 -- settled at b
-abbrev pub resting : ℕ → Cell
-resting b = record { present = b; settled = b; stores = Never; posted = false }
+abbrev pub settled-at : ℕ → Cell
+settled-at b = record { present = b; settled = b; stores = Never; posted = false }
 
 -- what is read past a table's end
 abbrev pub blank : Cell
-blank = resting 0
+blank = settled-at 0
 
 -- with its posting set, which a settled cell does not look at
 abbrev pub posting : Bool → Cell → Cell
 posting v c = record { present = c .present; settled = c .settled; stores = c .stores; posted = v }
 
-abbrev pub stored-over : Stores → ℕ → ℕ → ℕ → Cell
-stored-over Never b a s = record { present = b; settled = a; stores = Once; posted = false }
-stored-over Once b a s = record { present = b; settled = s; stores = More; posted = false }
-stored-over More b a s = record { present = b; settled = s; stores = More; posted = false }
+abbrev pub store-over : Stores → ℕ → ℕ → ℕ → Cell
+store-over Never b a s = record { present = b; settled = a; stores = Once; posted = false }
+store-over Once b a s = record { present = b; settled = s; stores = More; posted = false }
+store-over More b a s = record { present = b; settled = s; stores = More; posted = false }
 
 -- after a store of b
-abbrev pub stored : ℕ → Cell → Cell
-stored b c = stored-over (c .stores) b (c .present) (c .settled)
+abbrev pub after-store : ℕ → Cell → Cell
+after-store b c = store-over (c .stores) b (c .present) (c .settled)
 
 -- after a settle
-abbrev pub closed : Cell → Cell
-closed c = cond (c .posted) (resting (c .present)) c
+abbrev pub after-settle : Cell → Cell
+after-settle c = cond (c .posted) (settled-at (c .present)) c
 
-abbrev pub left : Stores → ℕ → ℕ → Option ℕ → ℕ
-left Never a s w = a
-left Once a s None = s
-left Once a s (Some b) = cond (eqb b a) b s
-left More a s None = s
-left More a s (Some b) = b
+abbrev pub byte-left : Stores → ℕ → ℕ → Option ℕ → ℕ
+byte-left Never a s w = a
+byte-left Once a s None = s
+byte-left Once a s (Some b) = cond (eqb b a) b s
+byte-left More a s None = s
+byte-left More a s (Some b) = b
 
 -- after a power cut, where the byte w is wanted, or none is
-abbrev pub fallen : Option ℕ → Cell → Cell
-fallen w c = resting (left (c .stores) (c .present) (c .settled) w)
+abbrev pub after-cut : Option ℕ → Cell → Cell
+after-cut w c = settled-at (byte-left (c .stores) (c .present) (c .settled) w)
 
 -- the byte wanted at place k
-abbrev pub wish : List ℕ → ℕ → Option ℕ
-wish ws k = cond (ltb k (length ws)) (Some (getD ws k 0)) None
+abbrev pub wanted-at : List ℕ → ℕ → Option ℕ
+wanted-at ws k = cond (ltb k (length ws)) (Some (getD ws k 0)) None

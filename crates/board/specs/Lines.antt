@@ -7,11 +7,11 @@ use denote.Ref.{now}
 use lib.Dec.{eqb}
 use lib.ListN.{length, getD, set}
 use Rattle.std.specs.declared.option.Option.{Option}
-use Rattle.model.specs.Places.{Fallen}
+use Rattle.model.specs.Places.{After-cut}
 use Rattle.model.specs.Writes.{Meaning, Write, After}
 use Rattle.board.specs.declared.line.Cell.{Cell}
 use Rattle.board.specs.declared.line.LineBoard.{LineBoard}
-use Rattle.board.specs.Cells.{place-of, resting, blank, posting, stored, closed, fallen, wish}
+use Rattle.board.specs.Cells.{place-of, settled-at, blank, posting, after-store, after-settle, after-cut, wanted-at}
 
 -- the places in a line
 abbrev pub line-width : ℕ
@@ -34,24 +34,24 @@ with-line v l cs = each (λ k c. cond (eqb (k / line-width) l) (posting v c) c) 
 
 -- every cell settled at its present byte
 abbrev pub new-table : List Cell → List Cell
-new-table cs = map (λ c. resting (c .present)) cs
+new-table cs = map (λ c. settled-at (c .present)) cs
 
 -- b stored at p, whose line loses its posting
 abbrev pub stored-table : ℕ → ℕ → List Cell → List Cell
-stored-table p b cs = set (with-line false (p / line-width) cs) p (stored b (getD cs p blank))
+stored-table p b cs = set (with-line false (p / line-width) cs) p (after-store b (getD cs p blank))
 
 abbrev pub posted-table : ℕ → List Cell → List Cell
 posted-table l cs = with-line true l cs
 
 abbrev pub settled-table : List Cell → List Cell
-settled-table cs = map closed cs
+settled-table cs = map after-settle cs
 
 abbrev pub cut-table : List ℕ → List Cell → List Cell
-cut-table ws cs = each (λ k c. fallen (wish ws k) c) 0 cs
+cut-table ws cs = each (λ k c. after-cut (wanted-at ws k) c) 0 cs
 
 -- a cell that a power cut leaves at place k, and that it is one that a board may leave
-abbrev pub Fell : List ℕ → ℕ → Cell → Cell → Type 0
-Fell ws k x y = (y ≡ fallen (wish ws k) x) × Fallen (place-of x) (place-of y)
+abbrev pub Cut-by : List ℕ → ℕ → Cell → Cell → Type 0
+Cut-by ws k x y = (y ≡ after-cut (wanted-at ws k) x) × After-cut (place-of x) (place-of y)
 
 -- a table that a granted call of any board may make of xs
 pub record Table-after (w : Write) (xs ys : List Cell) : Type 0 where
@@ -61,4 +61,4 @@ pub record Table-after (w : Write) (xs ys : List Cell) : Type 0 where
 -- a table that a power cut of any board may leave of xs
 pub record Table-cut (xs ys : List Cell) : Type 0 where
   pub size : length ys ≡ length xs
-  pub places : (k : ℕ) → k < length xs → Fallen (place-of (getD xs k blank)) (place-of (getD ys k blank))
+  pub places : (k : ℕ) → k < length xs → After-cut (place-of (getD xs k blank)) (place-of (getD ys k blank))

@@ -5,9 +5,9 @@ ghost use Rattle.model.specs.Writes.{Meaning, store, post, settle, Cut};
 ghost use Rattle.model.specs.Calls.{Wrote, Answered};
 
 pub mod line;
-pub mod through;
 pub mod rounds;
 mod supply;
+pub mod through;
 
 use model::faults::BoardFault;
 

@@ -7,10 +7,10 @@ ghost use lib.Dec.{lit≤};
 ghost use lib.ListN.{length};
 ghost use Rattle.std.specs.Results.{isOk};
 ghost use Rattle.std.specs.declared.option.Option.the-variants.{None};
-ghost use Rattle.model.specs.Places.{Fallen, is-loose};
+ghost use Rattle.model.specs.Places.{After-cut, is-loose};
 ghost use Rattle.model.specs.Writes.{Cut, loose-at, store, post, settle};
 ghost use Rattle.model.specs.Calls.{Wrote};
-ghost use Rattle.board.specs.Cells.{place-of, resting, stored, closed, fallen};
+ghost use Rattle.board.specs.Cells.{place-of, settled-at, after-store, after-settle, after-cut};
 ghost use Rattle.board.specs.Lines.{line-width, line-board, with-line, new-table, stored-table, posted-table, settled-table, cut-table, Table-after, Table-cut};
 use crate::Board;
 use crate::Slip;
@@ -39,8 +39,8 @@ pub struct Cell {
 
 impl Cell {
     // A cell settled at a byte.
-    pub const fn resting(byte: u8) -> Cell
-        ensures { λ r. ⌜ r ≡ resting byte ⌝ }
+    pub const fn settled_at(byte: u8) -> Cell
+        ensures { λ r. ⌜ r ≡ settled-at byte ⌝ }
     {
         Cell {
             present: byte,
@@ -60,8 +60,8 @@ impl Cell {
     }
 
     // After a store.
-    fn stored(self, byte: u8) -> Cell
-        ensures { λ r. ⌜ r ≡ stored byte self ⌝ }
+    fn after_store(self, byte: u8) -> Cell
+        ensures { λ r. ⌜ r ≡ after-store byte self ⌝ }
     {
         match self.stores {
             Stores::Never => Cell {
@@ -80,20 +80,20 @@ impl Cell {
     }
 
     // After a settle.
-    fn closed(self) -> Cell
-        ensures { λ r. ⌜ r ≡ closed self ⌝ }
+    fn after_settle(self) -> Cell
+        ensures { λ r. ⌜ r ≡ after-settle self ⌝ }
     {
         if self.posted {
-            Cell::resting(self.present)
+            Cell::settled_at(self.present)
         } else {
             self
         }
     }
 
     // After a power cut: the wanted byte if it may stand here, else the settled one.
-    fn fallen(self, wanted: Option<u8>) -> Cell
-        ensures exact { λ r. ⌜ r ≡ fallen wanted self ⌝ }
-        ensures may { λ r. ⌜ Fallen (place-of self) (place-of r) ⌝ }
+    fn after_cut(self, wanted: Option<u8>) -> Cell
+        ensures exact { λ r. ⌜ r ≡ after-cut wanted self ⌝ }
+        ensures may { λ r. ⌜ After-cut (place-of self) (place-of r) ⌝ }
     {
         let byte = match (self.stores, wanted) {
             (Stores::Never, _) => self.present,
@@ -101,7 +101,7 @@ impl Cell {
             (Stores::More, Some(byte)) => byte,
             _ => self.settled,
         };
-        Cell::resting(byte)
+        Cell::settled_at(byte)
     }
 }
 
@@ -123,7 +123,7 @@ fn store_cell(cells: &mut [Cell], place: usize, byte: u8)
     ensures table { λ _. ⌜ now (cells .exit) ≡ stored-table place byte (now (cells .entry)) ⌝ }
     ensures may { λ _. ⌜ Table-after (store place byte) (now (cells .entry)) (now (cells .exit)) ⌝ }
 {
-    let cell = cells[place].stored(byte);
+    let cell = cells[place].after_store(byte);
     mark_line(cells, place / WIDTH, false);
     cells[place] = cell;
 }
@@ -143,7 +143,7 @@ fn settle_cells(cells: &mut [Cell])
     ensures may { λ _. ⌜ Table-after settle (now (cells .entry)) (now (cells .exit)) ⌝ }
 {
     for i in 0..cells.len() {
-        let cell = cells[i].closed();
+        let cell = cells[i].after_settle();
         cells[i] = cell;
     }
 }
@@ -154,17 +154,17 @@ fn cut_cells(cells: &mut [Cell], wanted: &[u8])
     ensures may { λ _. ⌜ Table-cut (now (cells .entry)) (now (cells .exit)) ⌝ }
 {
     for i in 0..cells.len() {
-        let cell = cells[i].fallen(wanted.get(i).copied());
+        let cell = cells[i].after_cut(wanted.get(i).copied());
         cells[i] = cell;
     }
 }
 
 // Settles each cell at its present byte.
-fn renew_cells(cells: &mut [Cell])
+fn settle_all(cells: &mut [Cell])
     ensures { λ _. ⌜ now (cells .exit) ≡ new-table (now (cells .entry)) ⌝ }
 {
     for i in 0..cells.len() {
-        let cell = Cell::resting(cells[i].present);
+        let cell = Cell::settled_at(cells[i].present);
         cells[i] = cell;
     }
 }
@@ -180,7 +180,7 @@ impl<'a> LineBoard<'a> {
     pub fn over(cells: &'a mut [Cell]) -> LineBoard<'a>
         ensures { λ r. ⌜ now (r .cells) ≡ new-table (now (cells .entry)) ⌝ ∗ ⌜ r .supply ≡ None ⌝ }
     {
-        renew_cells(cells);
+        settle_all(cells);
         LineBoard {
             cells,
             supply: None,

@@ -37,7 +37,12 @@ fn store_bytes<B: Board>(board: &mut B, at: usize, bytes: &[u8]) -> Result<u64, 
 }
 
 // Posts the lines from `first` to before `end`.
-fn post_range<B: Board>(board: &mut B, first: usize, end: usize, slip: &Slip) -> Result<u64, Stopped>
+fn post_range<B: Board>(
+    board: &mut B,
+    first: usize,
+    end: usize,
+    slip: &Slip,
+) -> Result<u64, Stopped>
     requires { ⌜ first ≤ end ⌝ ∗ ⌜ ((l : ℕ) → l < end → l * width < meaning (now board) .size) ⌝ }
     ensures { λ r. ⌜ Carried width (posts first (end - first)) (meaning (now (board .entry))) r (meaning (now (board .exit))) ⌝ }
 {
@@ -67,7 +72,12 @@ fn post_lines<B: Board>(board: &mut B, at: usize, count: usize, slip: &Slip) -> 
 }
 
 // The stores and the posts of a round.
-fn store_and_post<B: Board>(board: &mut B, at: usize, bytes: &[u8], slip: &Slip) -> Result<u64, Stopped>
+fn store_and_post<B: Board>(
+    board: &mut B,
+    at: usize,
+    bytes: &[u8],
+    slip: &Slip,
+) -> Result<u64, Stopped>
     requires { ⌜ 0 < length (now bytes) ⌝ ∗ ⌜ at + length (now bytes) ≤ meaning (now board) .size ⌝ ∗ ⌜ at + length (now bytes) < 2 ^ 64 ⌝ }
     ensures { λ r. ⌜ Carried width (stores at (now (bytes .entry)) ++ posts (at / width) (lines width at (length (now (bytes .entry))))) (meaning (now (board .entry))) r (meaning (now (board .exit))) ⌝ }
 {
@@ -83,7 +93,12 @@ fn store_and_post<B: Board>(board: &mut B, at: usize, bytes: &[u8], slip: &Slip)
 
 // The round of a stretch that lies on the board. Where a store or a post is refused, the power is out, and so is the settle
 // that spends the slip then.
-fn write_fitting<B: Board>(board: &mut B, slip: Slip, at: usize, bytes: &[u8]) -> Result<u64, Stopped>
+fn write_fitting<B: Board>(
+    board: &mut B,
+    slip: Slip,
+    at: usize,
+    bytes: &[u8],
+) -> Result<u64, Stopped>
     requires { ⌜ 0 < length (now bytes) ⌝ ∗ ⌜ at + length (now bytes) ≤ meaning (now board) .size ⌝ ∗ ⌜ at + length (now bytes) < 2 ^ 64 ⌝ }
     ensures { λ r. ⌜ Cases r (λ k. Whole width at (now (bytes .entry)) (meaning (now (board .entry))) k (meaning (now (board .exit)))) (λ s. Cut-short width at (now (bytes .entry)) (meaning (now (board .entry))) s (meaning (now (board .exit)))) ⌝ }
 {
@@ -92,16 +107,18 @@ fn write_fitting<B: Board>(board: &mut B, slip: Slip, at: usize, bytes: &[u8]) -
     let carried = written?;
     match settled {
         Ok(()) => Ok(carried + 1),
-        Err(fault) => Err(Stopped {
-            carried,
-            fault,
-        }),
+        Err(fault) => Err(Stopped { carried, fault }),
     }
 }
 
 // Writes the bytes from `at` on in one round, with the slip that it is given, and answers how many writing calls that took.
 // No bytes take no calls, wherever `at` is.
-pub fn write_round<B: Board>(board: &mut B, slip: Slip, at: usize, bytes: &[u8]) -> Result<u64, Stopped>
+pub fn write_round<B: Board>(
+    board: &mut B,
+    slip: Slip,
+    at: usize,
+    bytes: &[u8],
+) -> Result<u64, Stopped>
     ensures { λ r. ⌜ Round width at (now (bytes .entry)) (meaning (now (board .entry))) r (meaning (now (board .exit))) ⌝ }
 {
     if bytes.is_empty() {

@@ -1,10 +1,10 @@
 use crate::any::ends;
 use crate::any::no_places;
+use crate::any::read;
 use crate::any::rounds;
+use crate::any::store;
 use crate::any::supplies;
 use board::Board;
-use model::faults::BoardFaultDebug;
-use model::faults::BoardFaultPartialEq;
 use board::through::Through;
 use board::through::ThroughBoard;
 use std::test::*;
@@ -40,8 +40,10 @@ fn through_rounds() -> Result<(), Fail> {
 fn through_keeps() -> Result<(), Fail> {
     let mut bytes = [5; 3];
     let mut board = ThroughBoard::over(&mut bytes);
-    check_eq(board.store(1, 6), Ok(()))?;
+    let stored = store(&mut board, 1, 6);
     board.cut(&[9, 9, 9], None);
-    check_eq(board.read(0), Ok(5))?;
-    check_eq(board.read(1), Ok(6))
+    check_eq(
+        [stored, read(&board, 0), read(&board, 1)],
+        [(0, 0), (0, 5), (0, 6)],
+    )
 }

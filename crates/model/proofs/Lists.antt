@@ -11,7 +11,7 @@ use Rattle.std.specs.declared.option.Option.{Option}
 use Rattle.std.specs.declared.option.Option.the-variants.{Some, None}
 use Rattle.model.specs.Places.{Place, settled}
 use Rattle.model.specs.Writes.{Meaning, bytes, Write, store, post, settle, spent, Granted, Cut, Ran, Broken, Spares, Spared, Spared-line, rewritten}
-use Rattle.model.specs.Laws.{Once, Bears, Stored-lasts, Once-falls, Ran-bears}
+use Rattle.model.specs.Laws.{Once, Spends, Stored-lasts, Cut-old-or-new, Ran-spends}
 use Rattle.model.proofs.Places.{Steady, holds, Rests, rests-steady, Shows, shows-steady, Ready, Either, either-steady, store-shows, store-either, post-ready, stays-ready, settle-rests, cut-either, bytes-follow}
 
 -- parts of a list
@@ -48,26 +48,26 @@ once-before q b (u ∷ us) vs (inl h) k = inl (h .0, once-before q b us vs (h .1
 once-before q b (u ∷ us) vs (inr h) k = inr (h .0, spared-append q us vs (h .1) k)
 
 -- the power
-bears-none : (s : Option ℕ) → Bears 0 s s
-bears-none None = refl
-bears-none (Some s) = let e : s ≡ s - 0 = omega arith in (omega arith, ap Some e)
+spends-none : (s : Option ℕ) → Spends 0 s s
+spends-none None = refl
+spends-none (Some s) = let e : s ≡ s - 0 = omega arith in (omega arith, ap Some e)
 
-bears-next : (k : ℕ) (s t u : Option ℕ) → (s ≡ Some 0 → ⊥) → t ≡ spent s → Bears k t u → Bears (suc k) s u
-bears-next k None t u some e h = subst (λ x. Bears k x u) e h
-bears-next k (Some s) t u some e h =
+spends-next : (k : ℕ) (s t u : Option ℕ) → (s ≡ Some 0 → ⊥) → t ≡ spent s → Spends k t u → Spends (suc k) s u
+spends-next k None t u some e h = subst (λ x. Spends k x u) e h
+spends-next k (Some s) t u some e h =
     let lt : 0 < s = ⊎-elim (λ l. l) (λ l. let z : s ≡ 0 = omega arith in absurd (some (ap Some z))) (cases-lt 0 s) in
-    let b : Bears k (Some (s - 1)) u = subst (λ x. Bears k x u) e h in
+    let b : Spends k (Some (s - 1)) u = subst (λ x. Spends k x u) e h in
     let d : s - 1 - k ≡ s - suc k = omega arith in
     (omega (arith, b .0), b .1 ∙ ap Some d)
 
-pub ran-bears : Ran-bears
-ran-bears L [] m n e = (ap (λ x. x .size) e, subst (λ x. Bears 0 (m .supply) (x .supply)) (sym e) (bears-none (m .supply)))
-ran-bears L (w ∷ ws) m n r =
-    let rest = ran-bears L ws (r .0) n (r .2) in
-    (rest .0 ∙ r .1 .size, bears-next (length ws) (m .supply) (r .0 .supply) (n .supply) (r .1 .powered) (r .1 .supply) (rest .1))
+pub ran-spends : Ran-spends
+ran-spends L [] m n e = (ap (λ x. x .size) e, subst (λ x. Spends 0 (m .supply) (x .supply)) (sym e) (spends-none (m .supply)))
+ran-spends L (w ∷ ws) m n r =
+    let rest = ran-spends L ws (r .0) n (r .2) in
+    (rest .0 ∙ r .1 .size, spends-next (length ws) (m .supply) (r .0 .supply) (n .supply) (r .1 .powered) (r .1 .supply) (rest .1))
 
 pub ran-size : (L : ℕ) (ws : List Write) (m n : Meaning) → Ran L ws m n → n .size ≡ m .size
-ran-size L ws m n r = ran-bears L ws m n r .0
+ran-size L ws m n r = ran-spends L ws m n r .0
 
 still : (L q : ℕ) (w : Write) (m n : Meaning) → Granted L w m n → q < m .size → q < n .size
 still L q w m n g lt = subst (λ s. q < s) (sym (g .size)) lt
@@ -91,8 +91,8 @@ ran-either L q a b (w ∷ ws) m n lt (inr h) e r =
     ran-holds (Either a b) (either-steady a b) L q ws (r .0) n (r .2) (still L q w m (r .0) (r .1) lt) (h .1)
     (store-either L q a b m (r .0) (subst (λ x. Granted L x m (r .0)) (h .0) (r .1)) e)
 
-pub once-falls : Once-falls
-once-falls L q a b ws m n o s lt once e r c =
+pub cut-old-or-new : Cut-old-or-new
+cut-old-or-new L q a b ws m n o s lt once e r c =
     cut-either q a b n o s (subst (λ z. q < z) (sym (ran-size L ws m n r)) lt) (ran-either L q a b ws m n lt once e r) c
 
 pub stored-lasts : Stored-lasts
@@ -123,15 +123,15 @@ ran-next L ws i w m n o lt e r g =
     let longer : take (i + 1) ws ≡ take i ws ++ (w ∷ []) = take-more ws i settle lt ∙ ap (λ v. take i ws ++ (v ∷ [])) e in
     subst (λ vs. Ran L vs m o) (sym longer) (ran-join L (take i ws) (w ∷ []) m n o r (o, g, refl))
 
-bears-back : (k j : ℕ) (s : Option ℕ) → Bears k s (Some j) → s ≡ Some (k + j)
-bears-back k j None e = let z : _≡_ {A = ℕ} 0 1 = cc in absurd (omega arith)
-bears-back k j (Some s) h =
+spends-back : (k j : ℕ) (s : Option ℕ) → Spends k s (Some j) → s ≡ Some (k + j)
+spends-back k j None e = let z : _≡_ {A = ℕ} 0 1 = cc in absurd (omega arith)
+spends-back k j (Some s) h =
     let d : j ≡ s - k = cc in
     let e : s ≡ k + j = omega (arith, h .0) in ap Some e
 
 -- the supply at the start, from what is left of it
 pub ran-back : (L : ℕ) (ws : List Write) (j : ℕ) (m n : Meaning) → Ran L ws m n → n .supply ≡ Some j → m .supply ≡ Some (length ws + j)
-ran-back L ws j m n r e = bears-back (length ws) j (m .supply) (subst (Bears (length ws) (m .supply)) e (ran-bears L ws m n r .1))
+ran-back L ws j m n r e = spends-back (length ws) j (m .supply) (subst (Spends (length ws) (m .supply)) e (ran-spends L ws m n r .1))
 
 pub ran-broken : (L : ℕ) (ws : List Write) (i : ℕ) (m n : Meaning) → i < length ws → Ran L (take i ws) m n → n .supply ≡ Some 0 → Broken L ws m i n
 ran-broken L ws i m n lt r e =
@@ -169,6 +169,6 @@ ran-at L ws i j m n e r = subst (λ k. Ran L (take k ws) m n) e r
 -- a list that power ended leaves none
 pub broken-out : (L : ℕ) (ws : List Write) (k : ℕ) (m n : Meaning) → Broken L ws m k n → n .supply ≡ Some 0
 broken-out L ws k m n b =
-    let h : Bears (length (take k ws)) (Some k) (n .supply) = subst (λ s. Bears (length (take k ws)) s (n .supply)) (b .supply) (ran-bears L (take k ws) m n (b .ran) .1) in
+    let h : Spends (length (take k ws)) (Some k) (n .supply) = subst (λ s. Spends (length (take k ws)) s (n .supply)) (b .supply) (ran-spends L (take k ws) m n (b .ran) .1) in
     let none : k - length (take k ws) ≡ 0 = omega (arith, length-take-le k ws (omega (arith, b .short))) in
     h .1 ∙ ap Some none

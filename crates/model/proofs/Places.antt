@@ -12,9 +12,9 @@ use Rattle.std.proofs.shelf.Lists.{getD-set-same, getD-set-other, ext-getD}
 use Rattle.std.proofs.shelf.Counted.{length-map-counting, getD-map-counting}
 use Rattle.std.specs.declared.option.Option.{Option}
 use Rattle.std.specs.declared.option.Option.the-variants.{Some, None}
-use Rattle.model.specs.Places.{Place, settled, loose, present, marked, Kept, Stored, Closed, Fallen}
+use Rattle.model.specs.Places.{Place, settled, loose, present, marked, Kept, Stored, After-settle, After-cut}
 use Rattle.model.specs.Writes.{Meaning, bytes, Write, store, post, settle, After, Granted, Cut, Spares, Spares-line, rewritten}
-use Rattle.model.specs.Laws.{Settled-stays, Settled-falls, Bytes-follow}
+use Rattle.model.specs.Laws.{Settled-stays, Settled-survives, Bytes-follow}
 
 -- what no granted call takes from a place, unless it stores there
 abbrev pub Steady : (Place → Type 0) → Type 0
@@ -32,17 +32,17 @@ marked-holds : (P : Place → Type 0) → Steady P → (v : Bool) (x y : Place) 
 marked-holds P s v x y h k =
     kept-holds P (marked v x) y (s x h .0 v) (subst (λ b. P (settled b)) (sym (present-marked v x)) (s x h .1)) k
 
-closed-holds : (P : Place → Type 0) → Steady P → (x y : Place) → P x → Closed x y → P y
-closed-holds P s (settled a) y h e = subst P (sym e) h
-closed-holds P s (loose a old true) y h e = subst P (sym e) (s (loose a old true) h .1)
-closed-holds P s (loose a old false) y h k = kept-holds P (loose a old false) y h (s (loose a old false) h .1) k
+settle-holds : (P : Place → Type 0) → Steady P → (x y : Place) → P x → After-settle x y → P y
+settle-holds P s (settled a) y h e = subst P (sym e) h
+settle-holds P s (loose a old true) y h e = subst P (sym e) (s (loose a old true) h .1)
+settle-holds P s (loose a old false) y h k = kept-holds P (loose a old false) y h (s (loose a old false) h .1) k
 
 after-holds : (P : Place → Type 0) → Steady P → (L q : ℕ) (w : Write) (x y : Place) → Spares q w → P x → After L w q x y → P y
 after-holds P s L q (store p b) x y ne h t =
     ⊎-elim (λ e. marked-holds P s false x y h (t .beside ne e)) (λ n. kept-holds P x y h (s x h .1) (t .apart n)) (cases-eq (q / L) (p / L))
 after-holds P s L q (post l) x y u h t =
     ⊎-elim (λ e. marked-holds P s true x y h (t .inside e)) (λ n. kept-holds P x y h (s x h .1) (t .apart n)) (cases-eq (q / L) l)
-after-holds P s L q settle x y u h t = closed-holds P s x y h t
+after-holds P s L q settle x y u h t = settle-holds P s x y h t
 
 pub holds : (P : Place → Type 0) → Steady P → (L q : ℕ) (w : Write) (m n : Meaning) → Granted L w m n → q < m .size → Spares q w → P (m .at q) → P (n .at q)
 holds P s L q w m n g lt sp h = after-holds P s L q w (m .at q) (n .at q) sp h (g .places q lt)
@@ -116,10 +116,10 @@ post-ready L q b m n g lt h = posted-ready b (m .at q) (n .at q) h (g .places q 
 kept-ready : (b : ℕ) (x y : Place) → Ready b x → Kept x y → Ready b y
 kept-ready b x y h k = kept-holds (Ready b) x y h (ready-shows b x h) k
 
-closed-rests : (b : ℕ) (x y : Place) → Ready b x → Closed x y → Rests b y
-closed-rests b (settled a) y h e = e ∙ ap settled h
-closed-rests b (loose a old true) y h e = e ∙ ap settled h
-closed-rests b (loose a old false) y h k = absurd h
+settle-settles : (b : ℕ) (x y : Place) → Ready b x → After-settle x y → Rests b y
+settle-settles b (settled a) y h e = e ∙ ap settled h
+settle-settles b (loose a old true) y h e = e ∙ ap settled h
+settle-settles b (loose a old false) y h k = absurd h
 
 rests-ready : (b : ℕ) (x : Place) → Rests b x → Ready b x
 rests-ready b x e = subst (Ready b) (sym e) refl
@@ -128,31 +128,31 @@ after-ready : (L q b : ℕ) (w : Write) (x y : Place) → Spares-line L q w → 
 after-ready L q b (store p c) x y ne h t = kept-ready b x y h (t .apart ne)
 after-ready L q b (post l) x y u h t =
     ⊎-elim (λ e. posted-ready b x y (ready-shows b x h) (t .inside e)) (λ n. kept-ready b x y h (t .apart n)) (cases-eq (q / L) l)
-after-ready L q b settle x y u h t = rests-ready b y (closed-rests b x y h t)
+after-ready L q b settle x y u h t = rests-ready b y (settle-settles b x y h t)
 
 pub stays-ready : (L q b : ℕ) (w : Write) (m n : Meaning) → Granted L w m n → q < m .size → Spares-line L q w → Ready b (m .at q) → Ready b (n .at q)
 stays-ready L q b w m n g lt sp h = after-ready L q b w (m .at q) (n .at q) sp h (g .places q lt)
 
 pub settle-rests : (L q b : ℕ) (m n : Meaning) → Granted L settle m n → q < m .size → Ready b (m .at q) → n .at q ≡ settled b
-settle-rests L q b m n g lt h = closed-rests b (m .at q) (n .at q) h (g .places q lt)
+settle-rests L q b m n g lt h = settle-settles b (m .at q) (n .at q) h (g .places q lt)
 
 -- a power cut
-either-falls : (a b : ℕ) (x y : Place) → Either a b x → Fallen x y → (y ≡ settled a) ⊎ (y ≡ settled b)
-either-falls a b (settled c) y (inl h) f = inl (f ∙ ap settled h)
-either-falls a b (settled c) y (inr h) f = inr (f ∙ ap settled h)
-either-falls a b (loose c (Some old) posted) y h (inl f) = inl (f ∙ ap settled (h .0))
-either-falls a b (loose c (Some old) posted) y h (inr f) = inr (f ∙ ap settled (h .1))
-either-falls a b (loose c None posted) y h f = absurd h
+either-after-cut : (a b : ℕ) (x y : Place) → Either a b x → After-cut x y → (y ≡ settled a) ⊎ (y ≡ settled b)
+either-after-cut a b (settled c) y (inl h) f = inl (f ∙ ap settled h)
+either-after-cut a b (settled c) y (inr h) f = inr (f ∙ ap settled h)
+either-after-cut a b (loose c (Some old) posted) y h (inl f) = inl (f ∙ ap settled (h .0))
+either-after-cut a b (loose c (Some old) posted) y h (inr f) = inr (f ∙ ap settled (h .1))
+either-after-cut a b (loose c None posted) y h f = absurd h
 
 pub cut-either : (q a b : ℕ) (m n : Meaning) (s : Option ℕ) → q < m .size → Either a b (m .at q) → Cut s m n → (n .at q ≡ settled a) ⊎ (n .at q ≡ settled b)
-cut-either q a b m n s lt h c = either-falls a b (m .at q) (n .at q) h (c .places q lt)
+cut-either q a b m n s lt h c = either-after-cut a b (m .at q) (n .at q) h (c .places q lt)
 
 -- the laws of one call
 pub settled-stays : Settled-stays
 settled-stays L q a w m n g lt sp e = holds (Rests a) (rests-steady a) L q w m n g lt sp e
 
-pub settled-falls : Settled-falls
-settled-falls q a m n s lt e c = subst (λ x. Fallen x (n .at q)) e (c .places q lt)
+pub settled-survives : Settled-survives
+settled-survives q a m n s lt e c = subst (λ x. After-cut x (n .at q)) e (c .places q lt)
 
 -- the present bytes, place by place
 byte-at : (m : Meaning) (k : ℕ) → k < m .size → getD (bytes m) k 0 ≡ present (m .at k)
@@ -170,9 +170,9 @@ rewritten-at : (L : ℕ) (w : Write) (m n : Meaning) → Granted L w m n → (k 
 rewritten-at L (store p b) m n g k lt =
     ⊎-elim
     (λ e. subst (λ j. present (n .at j) ≡ getD (set (bytes m) p b) j 0) (sym e)
-        (store-shows L p b m n g ∙ sym (getD-set-same (bytes m) p b 0 (subst (λ s. p < s) (sym (length-bytes m)) (g .within)))))
+    (store-shows L p b m n g ∙ sym (getD-set-same (bytes m) p b 0 (subst (λ s. p < s) (sym (length-bytes m)) (g .within)))))
     (λ ne. holds (Shows (present (m .at k))) (shows-steady _) L k (store p b) m n g lt ne refl ∙ sym (byte-at m k lt)
-        ∙ sym (getD-set-other (bytes m) p k b 0 ne))
+    ∙ sym (getD-set-other (bytes m) p k b 0 ne))
     (cases-eq k p)
 rewritten-at L (post l) m n g k lt = holds (Shows (present (m .at k))) (shows-steady _) L k (post l) m n g lt tt refl ∙ sym (byte-at m k lt)
 rewritten-at L settle m n g k lt = holds (Shows (present (m .at k))) (shows-steady _) L k settle m n g lt tt refl ∙ sym (byte-at m k lt)
@@ -182,5 +182,5 @@ bytes-follow L w m n g =
     let long : length (bytes n) ≡ length (rewritten w (bytes m)) = length-bytes n ∙ g .size ∙ sym (length-rewritten w (bytes m) ∙ length-bytes m) in
     ext-getD 0 (bytes n) (rewritten w (bytes m)) long
     (λ k lt.
-      let within : k < m .size = subst (λ s. k < s) (length-bytes n ∙ g .size) lt in
-      byte-at n k (subst (λ s. k < s) (length-bytes n) lt) ∙ rewritten-at L w m n g k within)
+    let within : k < m .size = subst (λ s. k < s) (length-bytes n ∙ g .size) lt in
+    byte-at n k (subst (λ s. k < s) (length-bytes n) lt) ∙ rewritten-at L w m n g k within)

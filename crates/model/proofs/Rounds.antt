@@ -11,9 +11,9 @@ use Rattle.std.specs.declared.option.Option.{Option}
 use Rattle.model.specs.Places.{settled}
 use Rattle.model.specs.Writes.{Meaning, bytes, Write, store, post, settle, Granted, Cut, Ran, Spared}
 use Rattle.model.specs.Rounds.{stores, posts, lines, round, overwritten}
-use Rattle.model.specs.Laws.{Once, Outside, Round-spares, Round-falls, Round-lasts, Round-bytes}
-use Rattle.model.proofs.Places.{holds, Rests, rests-steady, Shows, shows-steady, Ready, store-shows, post-ready, stays-ready, settle-rests, settled-falls}
-use Rattle.model.proofs.Lists.{ran-split, ran-size, spared-take, spared-append, once-take, once-before, ran-holds, once-falls, written, ran-bytes}
+use Rattle.model.specs.Laws.{Once, Outside, Round-outside, Round-old-or-new, Round-lasts, Round-bytes}
+use Rattle.model.proofs.Places.{holds, Rests, rests-steady, Shows, shows-steady, Ready, store-shows, post-ready, stays-ready, settle-rests, settled-survives}
+use Rattle.model.proofs.Lists.{ran-split, ran-size, spared-take, spared-append, once-take, once-before, ran-holds, cut-old-or-new, written, ran-bytes}
 
 -- which places a round stores at
 spared-posts : (q l n : ℕ) → Spared q (posts l n)
@@ -46,14 +46,14 @@ unfolding round
 once-round L p i [] lt = absurd (omega arith)
 once-round L p i (b ∷ bs) lt = once-before (p + i) (getD (b ∷ bs) i 0) (stores p (b ∷ bs)) _ (once-stores p i (b ∷ bs) lt) (spared-end (p + i) (p / L) (lines L p (length (b ∷ bs))))
 
-pub round-spares : Round-spares
-round-spares L p bs k q a m n o s lt out e r =
+pub round-outside : Round-outside
+round-outside L p bs k q a m n o s lt out e r =
     let stays = ran-holds (Rests a) (rests-steady a) L q (take k (round L p bs)) m n r lt (spared-take k q (round L p bs) (spared-round L q p bs out)) e in
-    (stays, λ c. settled-falls q a n o s (subst (λ z. q < z) (sym (ran-size L (take k (round L p bs)) m n r)) lt) stays c)
+    (stays, λ c. settled-survives q a n o s (subst (λ z. q < z) (sym (ran-size L (take k (round L p bs)) m n r)) lt) stays c)
 
-pub round-falls : Round-falls
-round-falls L p bs k i a m n o s lt within e r c =
-    once-falls L (p + i) a (getD bs i 0) (take k (round L p bs)) m n o s within (once-take k (p + i) (getD bs i 0) (round L p bs) (once-round L p i bs lt)) e r c
+pub round-old-or-new : Round-old-or-new
+round-old-or-new L p bs k i a m n o s lt within e r c =
+    cut-old-or-new L (p + i) a (getD bs i 0) (take k (round L p bs)) m n o s within (once-take k (p + i) (getD bs i 0) (round L p bs) (once-round L p i bs lt)) e r c
 
 -- the whole round
 within-size : (L q : ℕ) (ws : List Write) (m n : Meaning) → Ran L ws m n → q < m .size → q < n .size
@@ -64,9 +64,10 @@ stores-show L p i [] m n lt r = absurd (omega arith)
 stores-show L p zero (b ∷ bs) m n lt r =
     let e : p ≡ p + 0 = omega arith in
     let on : p < r .0 .size = subst (λ z. p < z) (sym (r .1 .size)) (r .1 .within) in
-    subst (λ q. (q < n .size) × Shows b (n .at q)) e
-    (within-size L p (stores (suc p) bs) (r .0) n (r .2) on,
-     ran-holds (Shows b) (shows-steady b) L p (stores (suc p) bs) (r .0) n (r .2) on (spared-stores p (suc p) bs (λ le _. omega arith)) (store-shows L p b m (r .0) (r .1)))
+    subst (λ q. (q < n .size) × Shows b (n .at q)) e (
+      within-size L p (stores (suc p) bs) (r .0) n (r .2) on,
+      ran-holds (Shows b) (shows-steady b) L p (stores (suc p) bs) (r .0) n (r .2) on (spared-stores p (suc p) bs (λ le _. omega arith)) (store-shows L p b m (r .0) (r .1)),
+    )
 stores-show L p (suc i) (b ∷ bs) m n lt r =
     let e : suc p + i ≡ p + suc i = omega arith in
     subst (λ q. (q < n .size) × Shows (getD bs i 0) (n .at q)) e (stores-show L (suc p) i bs (r .0) n (omega arith) (r .2))
@@ -84,7 +85,7 @@ posts-settle L q b l (suc n) m o lt le up h r =
     ⊎-elim
     (λ e. ready-settles L q b (suc l) n (r .0) o lt′ (post-ready L q b m (r .0) (subst (λ x. Granted L (post x) m (r .0)) e (r .1)) lt h) (r .2))
     (λ ne. posts-settle L q b (suc l) n (r .0) o lt′ (omega arith) (omega arith)
-        (holds (Shows b) (shows-steady b) L q (post l) m (r .0) (r .1) lt tt h) (r .2))
+    (holds (Shows b) (shows-steady b) L q (post l) m (r .0) (r .1) lt tt h) (r .2))
     (cases-eq l (q / L))
 
 -- a later place lies in no earlier line

@@ -28,14 +28,14 @@ Once q b [] = Unit {0}
 Once q b (w ∷ ws) = (Spares q w × Once q b ws) ⊎ ((w ≡ store q b) × Spared q ws)
 
 -- A settled place that is stored at once holds, after a power cut, the old byte or the new one.
-abbrev pub Once-falls : Type 0
-Once-falls =
+abbrev pub Cut-old-or-new : Type 0
+Cut-old-or-new =
     (L q a b : ℕ) (ws : List Write) (m n o : Meaning) (s : Option ℕ) → q < m .size → Once q b ws → m .at q ≡ settled a
     → Ran L ws m n → Cut s n o → (o .at q ≡ settled a) ⊎ (o .at q ≡ settled b)
 
 -- A power cut leaves settled places alone.
-abbrev pub Settled-falls : Type 0
-Settled-falls =
+abbrev pub Settled-survives : Type 0
+Settled-survives =
     (q a : ℕ) (m n : Meaning) (s : Option ℕ) → q < m .size → m .at q ≡ settled a → Cut s m n → n .at q ≡ settled a
 
 -- Present bytes change only where a store says so.
@@ -43,28 +43,28 @@ abbrev pub Bytes-follow : Type 0
 Bytes-follow = (L : ℕ) (w : Write) (m n : Meaning) → Granted L w m n → bytes n ≡ rewritten w (bytes m)
 
 -- what is left of a supply after k calls, where it bears them
-abbrev pub Bears : ℕ → Option ℕ → Option ℕ → Type 0
-Bears k None t = t ≡ None
-Bears k (Some s) t = (k ≤ s) × (t ≡ Some (s - k))
+abbrev pub Spends : ℕ → Option ℕ → Option ℕ → Type 0
+Spends k None t = t ≡ None
+Spends k (Some s) t = (k ≤ s) × (t ≡ Some (s - k))
 
 -- A list of granted calls keeps the number of places, and the power bore each of them.
-abbrev pub Ran-bears : Type 0
-Ran-bears =
-    (L : ℕ) (ws : List Write) (m n : Meaning) → Ran L ws m n → (n .size ≡ m .size) × Bears (length ws) (m .supply) (n .supply)
+abbrev pub Ran-spends : Type 0
+Ran-spends =
+    (L : ℕ) (ws : List Write) (m n : Meaning) → Ran L ws m n → (n .size ≡ m .size) × Spends (length ws) (m .supply) (n .supply)
 
 -- place q is not one of the n places from p on
 abbrev pub Outside : ℕ → ℕ → ℕ → Type 0
 Outside p n q = p ≤ q → q < p + n → ⊥
 
 -- After the first k calls of a round every settled place outside it is settled at its byte, and holds it after a power cut.
-abbrev pub Round-spares : Type 0
-Round-spares =
+abbrev pub Round-outside : Type 0
+Round-outside =
     (L p : ℕ) (bs : List ℕ) (k q a : ℕ) (m n o : Meaning) (s : Option ℕ) → q < m .size → Outside p (length bs) q → m .at q ≡ settled a
     → Ran L (take k (round L p bs)) m n → (n .at q ≡ settled a) × (Cut s n o → o .at q ≡ settled a)
 
 -- After the first k calls of a round and a power cut every settled place of the round holds its old byte or its new one.
-abbrev pub Round-falls : Type 0
-Round-falls =
+abbrev pub Round-old-or-new : Type 0
+Round-old-or-new =
     (L p : ℕ) (bs : List ℕ) (k i a : ℕ) (m n o : Meaning) (s : Option ℕ) → i < length bs → p + i < m .size → m .at (p + i) ≡ settled a
     → Ran L (take k (round L p bs)) m n → Cut s n o → (o .at (p + i) ≡ settled a) ⊎ (o .at (p + i) ≡ settled (getD bs i 0))
 
@@ -81,11 +81,11 @@ Round-bytes =
 pub record Board-laws : Type 0 where
   pub settled-stays : Settled-stays
   pub stored-lasts : Stored-lasts
-  pub once-falls : Once-falls
-  pub settled-falls : Settled-falls
+  pub cut-old-or-new : Cut-old-or-new
+  pub settled-survives : Settled-survives
   pub bytes-follow : Bytes-follow
-  pub ran-bears : Ran-bears
-  pub round-spares : Round-spares
-  pub round-falls : Round-falls
+  pub ran-spends : Ran-spends
+  pub round-outside : Round-outside
+  pub round-old-or-new : Round-old-or-new
   pub round-lasts : Round-lasts
   pub round-bytes : Round-bytes

@@ -37,13 +37,13 @@ Stored b (settled a) y = (y ≡ loose b (Some a) false) ⊎ (y ≡ settled b)
 Stored b (loose a old posted) y = ((o : Option ℕ) × (y ≡ loose b o false)) ⊎ (y ≡ settled b)
 
 -- after a settle
-abbrev pub Closed : Place → Place → Type 0
-Closed (settled a) y = y ≡ settled a
-Closed (loose a old true) y = y ≡ settled a
-Closed (loose a old false) y = Kept (loose a old false) y
+abbrev pub After-settle : Place → Place → Type 0
+After-settle (settled a) y = y ≡ settled a
+After-settle (loose a old true) y = y ≡ settled a
+After-settle (loose a old false) y = Kept (loose a old false) y
 
 -- after a power cut
-abbrev pub Fallen : Place → Place → Type 0
-Fallen (settled a) y = y ≡ settled a
-Fallen (loose a (Some old) posted) y = (y ≡ settled old) ⊎ (y ≡ settled a)
-Fallen (loose a None posted) y = (b : ℕ) × (b < 256) × (y ≡ settled b)
+abbrev pub After-cut : Place → Place → Type 0
+After-cut (settled a) y = y ≡ settled a
+After-cut (loose a (Some old) posted) y = (y ≡ settled old) ⊎ (y ≡ settled a)
+After-cut (loose a None posted) y = (b : ℕ) × (b < 256) × (y ≡ settled b)

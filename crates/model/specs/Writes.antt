@@ -8,7 +8,7 @@ use lib.ListN.{length, take, set}
 use Rattle.std.specs.Iters.{counting}
 use Rattle.std.specs.declared.option.Option.{Option}
 use Rattle.std.specs.declared.option.Option.the-variants.{Some, None}
-use Rattle.model.specs.Places.{Place, present, is-loose, marked, Kept, Stored, Closed, Fallen}
+use Rattle.model.specs.Places.{Place, present, is-loose, marked, Kept, Stored, After-settle, After-cut}
 
 -- size is the number of places, N; supply is the number of writing calls that the power still carries, None without limit.
 -- The line of place p is p / L, where L belongs to the make of board and stands beside the meaning.
@@ -45,7 +45,7 @@ pub record PostedAt (L l k : ℕ) (x y : Place) : Type 0 where
 abbrev pub After : ℕ → Write → ℕ → Place → Place → Type 0
 After L (store p b) k x y = StoredAt L p b k x y
 After L (post l) k x y = PostedAt L l k x y
-After L settle k x y = Closed x y
+After L settle k x y = After-settle x y
 
 -- the place, or the first place of the line, lies on a board of that size
 abbrev pub Within : ℕ → Write → ℕ → Type 0
@@ -69,7 +69,7 @@ pub record Granted (L : ℕ) (w : Write) (m n : Meaning) : Type 0 where
 pub record Cut (s : Option ℕ) (m n : Meaning) : Type 0 where
   pub size : n .size ≡ m .size
   pub supply : n .supply ≡ s
-  pub places : (k : ℕ) → k < m .size → Fallen (m .at k) (n .at k)
+  pub places : (k : ℕ) → k < m .size → After-cut (m .at k) (n .at k)
 
 -- a list of writing calls, each granted, from m to o
 abbrev pub Ran : ℕ → List Write → Meaning → Meaning → Type 0

@@ -7,5 +7,4 @@ pub mod faults;
 // The laws that every board keeps, whatever its make.
 pub fn board_laws()
     ensures { λ _. ⌜ Board-laws ⌝ }
-{
-}
+{}

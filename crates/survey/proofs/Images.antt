@@ -12,7 +12,7 @@ pub sure-from : (low high whole : List ℕ) → length whole ≡ record-size →
 sure-from low high whole size e f image b =
     ext-getD 0 image whole (b .size ∙ sym size)
     (λ k lt.
-      ⊎-elim (λ h. h ∙ ap (λ r. getD r k 0) e) (λ h. h ∙ ap (λ r. getD r k 0) f) (b .bytes k (omega (arith, b .size))))
+    ⊎-elim (λ h. h ∙ ap (λ r. getD r k 0) e) (λ h. h ∙ ap (λ r. getD r k 0) f) (b .bytes k (omega (arith, b .size))))
 
 pub sure-low : (low high whole : List ℕ) → length low ≡ record-size → Sure low high whole → low ≡ whole
 sure-low low high whole size s = s low (record { size = size; bytes = λ k lt. inl refl })

@@ -14,10 +14,10 @@ use Rattle.std.specs.declared.result.Result.the-variants.{Ok, Err}
 use Rattle.model.specs.Places.{settled, present}
 use Rattle.model.specs.Writes.{Meaning, Cut, Ran}
 use Rattle.model.specs.Rounds.{round}
-use Rattle.model.specs.Laws.{Bears}
-use Rattle.model.proofs.Places.{settled-falls}
-use Rattle.model.proofs.Lists.{ran-size, ran-bears}
-use Rattle.model.proofs.Rounds.{round-lasts, round-falls}
+use Rattle.model.specs.Laws.{Spends}
+use Rattle.model.proofs.Places.{settled-survives}
+use Rattle.model.proofs.Lists.{ran-size, ran-spends}
+use Rattle.model.proofs.Rounds.{round-lasts, round-old-or-new}
 use Rattle.board.specs.declared.rounds.Stopped.{Stopped}
 use Rattle.board.specs.Rounds.{Round, Whole, Cut-short, Too-long}
 use Rattle.survey.specs.Record.{record-at, record-size, record-end, old-record, new-record, Prepared, Updated, calls, Shown, Old-or-new}
@@ -35,17 +35,17 @@ prepared L s l m n o r some long first round second =
     record {
       size = subst (λ k. record-end ≤ k) (sym (second .size)) size;
       supply = second .supply;
-      places = λ k lt. settled-falls (record-at + k) _ n o s (omega arith) (round-lasts L record-at old-record k m n some lt ran) second;
+      places = λ k lt. settled-survives (record-at + k) _ n o s (omega arith) (round-lasts L record-at old-record k m n some lt ran) second;
     }
 
-bears-calls : (L : ℕ) (s t : Option ℕ) → Bears (length (round L record-at new-record)) s t → length (round L record-at new-record) ≡ calls L s
-bears-calls L None t h = refl
-bears-calls L (Some s) t h = sym (min-eq-right (h .0))
+spends-calls : (L : ℕ) (s t : Option ℕ) → Spends (length (round L record-at new-record)) s t → length (round L record-at new-record) ≡ calls L s
+spends-calls L None t h = refl
+spends-calls L (Some s) t h = sym (min-eq-right (h .0))
 
 -- the whole round was carried out
 pub updated-calls : (L k : ℕ) (s : Option ℕ) (m n : Meaning) → Prepared s m → Whole L record-at new-record m k n → k ≡ calls L s
 updated-calls L k s m n p w =
-    w .count ∙ bears-calls L s (n .supply) (subst (λ t. Bears (length (round L record-at new-record)) t (n .supply)) (p .supply) (ran-bears L _ m n (w .ran) .1))
+    w .count ∙ spends-calls L s (n .supply) (subst (λ t. Spends (length (round L record-at new-record)) t (n .supply)) (p .supply) (ran-spends L _ m n (w .ran) .1))
 
 pub updated-whole : (L k : ℕ) (s : Option ℕ) (m n : Meaning) → Prepared s m → Whole L record-at new-record m k n → Updated L n
 updated-whole L k s m n p w =
@@ -62,7 +62,7 @@ found-either L m n t r u c shown k lt =
     let start = u .start in
     let p = u .old .1 in
     let new = getD new-record k 0 in
-    let either = round-falls L record-at new-record (u .done) k (getD old-record k 0) start m n t lt (omega (arith, p .size)) (p .places k lt) (u .ran) c in
+    let either = round-old-or-new L record-at new-record (u .done) k (getD old-record k 0) start m n t lt (omega (arith, p .size)) (p .places k lt) (u .ran) c in
     ⊎-elim (λ e. inl (shown .bytes k lt ∙ ap present e)) (λ e. inr (shown .bytes k lt ∙ ap present e)) either
 
 pub updated-size : (L : ℕ) (m : Meaning) → Updated L m → record-end ≤ m .size

@@ -17,9 +17,15 @@ use table::survey;
 const SIZE: usize = 128;
 
 fn main(rt: LibcRuntime) -> io::Result<()> {
-    println!(rt, "An 8-byte record at places 60 to 67 is updated in one round of writing, and the power is cut.")?;
-    println!(rt, "A loose place, marked x, may be found with its old or its new byte.")?;
-    let mut cells = [Cell::resting(0); SIZE];
+    println!(
+        rt,
+        "An 8-byte record at places 60 to 67 is updated in one round of writing, and the power is cut."
+    )?;
+    println!(
+        rt,
+        "A loose place, marked x, may be found with its old or its new byte."
+    )?;
+    let mut cells = [Cell::settled_at(0); SIZE];
     println!(rt, "")?;
     println!(rt, "Line board, 64 places to a line")?;
     survey(&rt, &mut LineBoard::over(&mut cells))?;

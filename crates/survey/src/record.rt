@@ -13,7 +13,9 @@ pub(crate) const LEN: usize = 8;
 pub(crate) const AT: usize = 60;
 // The place behind the record.
 pub(crate) const END: usize = 68;
+
 pub(crate) const OLD: [u8; LEN] = *b"old-vote";
+
 pub(crate) const NEW: [u8; LEN] = *b"NEW+VOTE";
 
 // Settles the old record, and gives the power a supply.

@@ -94,7 +94,13 @@ fn line<B: Board + Peek>(rt: &LibcRuntime, board: &mut B, supply: u64) -> io::Re
     let high = found(board, Some(supply), &NEW);
     let carried = update(board, Some(supply));
     let marks = marks(board);
-    println!(rt, "{supply:>6} {carried:>7}  {}  {}  {}", text(&marks), text(&low), text(&high))?;
+    println!(
+        rt,
+        "{supply:>6} {carried:>7}  {}  {}  {}",
+        text(&marks),
+        text(&low),
+        text(&high)
+    )?;
     Ok(may_tear(&low, &high))
 }
 
@@ -110,5 +116,8 @@ pub(crate) fn survey<B: Board + Peek>(rt: &LibcRuntime, board: &mut B) -> io::Re
             torn = torn.saturating_add(1);
         }
     }
-    println!(rt, "The record could be found torn at {torn} of {points} points.")
+    println!(
+        rt,
+        "The record could be found torn at {torn} of {points} points."
+    )
 }

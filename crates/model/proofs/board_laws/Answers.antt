@@ -1,6 +1,6 @@
-use Rattle.model.proofs.Places.{settled-stays, settled-falls, bytes-follow}
-use Rattle.model.proofs.Lists.{stored-lasts, once-falls, ran-bears}
-use Rattle.model.proofs.Rounds.{round-spares, round-falls, round-lasts, round-bytes}
+use Rattle.model.proofs.Places.{settled-stays, settled-survives, bytes-follow}
+use Rattle.model.proofs.Lists.{stored-lasts, cut-old-or-new, ran-spends}
+use Rattle.model.proofs.Rounds.{round-outside, round-old-or-new, round-lasts, round-bytes}
 use Rattle.model.proofs.board_laws.Needs as need
 
 pub returns : need.returns
@@ -8,12 +8,12 @@ returns c =
     record {
       settled-stays = settled-stays;
       stored-lasts = stored-lasts;
-      once-falls = once-falls;
-      settled-falls = settled-falls;
+      cut-old-or-new = cut-old-or-new;
+      settled-survives = settled-survives;
       bytes-follow = bytes-follow;
-      ran-bears = ran-bears;
-      round-spares = round-spares;
-      round-falls = round-falls;
+      ran-spends = ran-spends;
+      round-outside = round-outside;
+      round-old-or-new = round-old-or-new;
       round-lasts = round-lasts;
       round-bytes = round-bytes;
     }

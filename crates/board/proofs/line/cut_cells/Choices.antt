@@ -1,6 +1,6 @@
-use Rattle.board.specs.Lines.{Fell}
+use Rattle.board.specs.Lines.{Cut-by}
 use Rattle.board.proofs.Sweeps.{Swept}
 use Rattle.board.proofs.line.cut_cells.Given as given
 
 abbrev pub Inv-loop-i : given.InvT-loop-i
-Inv-loop-i l = Swept (Fell (l .wanted)) 0 (l .i) (l .entry .cells) (l .cells)
+Inv-loop-i l = Swept (Cut-by (l .wanted)) 0 (l .i) (l .entry .cells) (l .cells)

@@ -11,5 +11,5 @@ returns c =
     let p = c .args .place in
     let b = c .args .byte in
     let cs = c .args .cells .now in
-    let table : set (c .mark-line .last .cells) p (c .stored-cell .result) ≡ stored-table p b cs = cc in
+    let table : set (c .mark-line .last .cells) p (c .after-store-cell .result) ≡ stored-table p b cs = cc in
     record { table = table; may = subst (Table-after (store p b) cs) (sym table) (stored-may p b cs (c .pre)) }

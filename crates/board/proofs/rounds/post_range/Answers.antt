@@ -22,10 +22,11 @@ loop-line-again g c =
     let line = c .loop-line .line in
     let granted = c .in-Ok .ensures tt in
     let here : first + (line - first) ≡ line = omega arith in
-    let next : line - first + 1 ≡ line + 1 - first = omega arith in
-    (granted .size ∙ c .loop-line .inv .0,
-     ran-at (g .B·Board .width) (posts first n) (line - first + 1) (line + 1 - first) _ _ next
-     (ran-next (g .B·Board .width) (posts first n) (line - first) (post line) _ _ _ (omega (arith, length-posts first n)) (getD-posts first n (line - first) (omega arith) ∙ ap post here) (c .loop-line .inv .1) granted))
+    let next : line - first + 1 ≡ line + 1 - first = omega arith in (
+      granted .size ∙ c .loop-line .inv .0,
+      ran-at (g .B·Board .width) (posts first n) (line - first + 1) (line + 1 - first) _ _ next
+          (ran-next (g .B·Board .width) (posts first n) (line - first) (post line) _ _ _ (omega (arith, length-posts first n)) (getD-posts first n (line - first) (omega arith) ∙ ap post here) (c .loop-line .inv .1) granted),
+    )
 
 pub returns : need.returns
 returns g c =

@@ -21,9 +21,10 @@ loop-i-again g c =
     let p = c .args .at in
     let bs = c .args .bytes .now in
     let i = c .loop-i .i in
-    let granted = c .in-Ok .ensures tt in
-    (granted .size ∙ c .loop-i .inv .0,
-     ran-next (g .B·Board .width) (stores p bs) i _ _ _ _ (omega (arith, length-stores p bs)) (getD-stores p bs i (omega arith)) (c .loop-i .inv .1) granted)
+    let granted = c .in-Ok .ensures tt in (
+      granted .size ∙ c .loop-i .inv .0,
+      ran-next (g .B·Board .width) (stores p bs) i _ _ _ _ (omega (arith, length-stores p bs)) (getD-stores p bs i (omega arith)) (c .loop-i .inv .1) granted,
+    )
 
 pub returns : need.returns
 returns g c =

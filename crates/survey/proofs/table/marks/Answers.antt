@@ -11,7 +11,8 @@ pub loop-i-again : need.loop-i-again
 loop-i-again g c =
     let i = c .loop-i .i in
     let marks = c .loop-i .marks in
-    let shown : ℕ → ℕ = λ k. mark (g .B·Peek .loose (c .args .board .now) (record-at + k)) in
-    (length-set marks i (c .mark .result) ∙ c .loop-i .inv .0,
-     subst (λ b. (k : ℕ) → k < i + 1 → getD (set marks i b) k 0 ≡ shown k) (sym (c .mark .ensures ∙ ap mark (c .is-loose .ensures)))
-     (fill-by-more shown marks i 0 (omega arith) (c .loop-i .inv .1)))
+    let shown : ℕ → ℕ = λ k. mark (g .B·Peek .loose (c .args .board .now) (record-at + k)) in (
+      length-set marks i (c .mark .result) ∙ c .loop-i .inv .0,
+      subst (λ b. (k : ℕ) → k < i + 1 → getD (set marks i b) k 0 ≡ shown k) (sym (c .mark .ensures ∙ ap mark (c .is-loose .ensures)))
+          (fill-by-more shown marks i 0 (omega arith) (c .loop-i .inv .1)),
+    )
