@@ -107,7 +107,7 @@ impl Cell {
 
 // Sets the posting of the cells of a line.
 fn mark_line(cells: &mut [Cell], line: usize, posted: bool)
-    requires { ⌜ line * 64 < length (now cells) ⌝ }
+    requires { ⌜ line * line-width < length (now cells) ⌝ }
     ensures { λ _. ⌜ now (cells .exit) ≡ with-line posted line (now (cells .entry)) ⌝ }
 {
     let first = line * WIDTH;
@@ -130,7 +130,7 @@ fn store_cell(cells: &mut [Cell], place: usize, byte: u8)
 
 // Posts a line.
 fn post_cells(cells: &mut [Cell], line: usize)
-    requires { ⌜ line * 64 < length (now cells) ⌝ }
+    requires { ⌜ line * line-width < length (now cells) ⌝ }
     ensures table { λ _. ⌜ now (cells .exit) ≡ posted-table line (now (cells .entry)) ⌝ }
     ensures may { λ _. ⌜ Table-after (post line) (now (cells .entry)) (now (cells .exit)) ⌝ }
 {

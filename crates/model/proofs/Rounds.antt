@@ -4,14 +4,14 @@ use mathlib.Core.Logic.{_⊎_, inl, inr, ⊎-elim}
 use mathlib.Core.List.{List, [], _∷_, _++_, append-assoc}
 use Prim.Native.Nat.{ℕ, zero, suc, _+_, _-_, _*_, _/_, _<_, _≤_}
 use native.Mathlib.Omega.{arith}
-use native.Mathlib.Nat.{le-div-iff-mul-le, div-mul-le-self}
+use native.Mathlib.Nat.{le-div-iff-mul-le, div-lt-iff-lt-mul, div-mul-le-self, mul-div-cancel}
 use lib.ListN.{length, take, getD, set}
 use Rattle.std.proofs.shelf.Tests.{cases-eq}
 use Rattle.std.specs.declared.option.Option.{Option}
 use Rattle.model.specs.Places.{settled}
 use Rattle.model.specs.Writes.{Meaning, bytes, Write, store, post, settle, Granted, Cut, Ran, Spared}
 use Rattle.model.specs.Rounds.{stores, posts, lines, round, overwritten}
-use Rattle.model.specs.Laws.{Once, Outside, Round-outside, Round-old-or-new, Round-lasts, Round-bytes}
+use Rattle.model.specs.Laws.{Once, Has, Outside, Round-posts, Round-outside, Round-old-or-new, Round-lasts, Round-bytes}
 use Rattle.model.proofs.Places.{holds, Rests, rests-steady, Shows, shows-steady, Ready, store-shows, post-ready, stays-ready, settle-rests, settled-survives}
 use Rattle.model.proofs.Lists.{ran-split, ran-size, spared-take, spared-append, once-take, once-before, ran-holds, cut-old-or-new, written, ran-bytes}
 
@@ -159,3 +159,59 @@ round-parts L p (b ∷ bs) lt = append-assoc (stores p (b ∷ bs)) (posts (p / L
 pub round-none : (L p : ℕ) → round L p [] ≡ []
 unfolding round
 round-none L p = refl
+
+-- which lines a round posts
+has-append : (w : Write) (us vs : List Write) → Has w vs → Has w (us ++ vs)
+has-append w [] vs h = h
+has-append w (u ∷ us) vs h = inr (has-append w us vs h)
+
+has-split : (w : Write) (us vs : List Write) → Has w (us ++ vs) → Has w us ⊎ Has w vs
+has-split w [] vs h = inr h
+has-split w (u ∷ us) vs (inl e) = inl (inl e)
+has-split w (u ∷ us) vs (inr h) = ⊎-elim (λ x. inl (inr x)) (λ x. inr x) (has-split w us vs h)
+
+has-posts : (k l n : ℕ) (ws : List Write) → l ≤ k → k < l + n → Has (post k) (posts l n ++ ws)
+has-posts k l zero ws le lt = absurd (omega arith)
+has-posts k l (suc n) ws le lt = ⊎-elim (λ e. inl (ap post e)) (λ ne. inr (has-posts k (suc l) n ws (omega arith) (omega arith))) (cases-eq k l)
+
+posted-line : {k l : ℕ} → post k ≡ post l → k ≡ l
+posted-line e = cc
+
+posts-have : (k l n : ℕ) → Has (post k) (posts l n) → (l ≤ k) × (k < l + n)
+posts-have k l zero h = absurd h
+posts-have k l (suc n) (inl e) = let q : k ≡ l = posted-line e in (omega arith, omega arith)
+posts-have k l (suc n) (inr h) = let r = posts-have k (suc l) n h in (omega arith, omega arith)
+
+no-post : (k p : ℕ) (bs : List ℕ) → Has (post k) (stores p bs) → ⊥
+no-post k p [] h = h
+no-post k p (b ∷ bs) (inl e) = let z : _≡_ {A = ℕ} 0 1 = cc in omega arith
+no-post k p (b ∷ bs) (inr h) = no-post k (suc p) bs h
+
+-- a line from the first to the last holds one of the places
+line-held : (L p n l : ℕ) → 0 < L → p / L ≤ l → l < p / L + lines L p (suc n) → (i : ℕ) × (i < suc n) × ((p + i) / L ≡ l)
+line-held L p n l some low high =
+    let rises = line-rises L p (p + n) some (omega arith) in
+    let last : l ≤ (p + n) / L = omega arith in
+    ⊎-elim
+    (λ e. let z : p + 0 ≡ p = omega arith in (0, omega arith, ap (λ q. q / L) z ∙ sym e))
+    (λ ne.
+      let past : p < l * L = div-lt-iff-lt-mul some .0 (omega arith) in
+      let end : l * L ≤ p + n = le-div-iff-mul-le some .0 last in
+      let place : p + (l * L - p) ≡ l * L = omega arith in
+      (l * L - p, omega arith, ap (λ q. q / L) place ∙ mul-div-cancel l some))
+    (cases-eq l (p / L))
+
+pub round-posts : Round-posts
+unfolding round
+round-posts L p [] some = (λ i lt. absurd (omega arith), λ l h. absurd h)
+round-posts L p (b ∷ bs) some =
+    let count = lines L p (length (b ∷ bs)) in
+    (λ i lt. let r = line-reached L p i (length bs) some lt in has-append (post ((p + i) / L)) (stores p (b ∷ bs)) _ (has-posts ((p + i) / L) (p / L) count (settle ∷ []) (r .0) (r .1)),
+     λ l h.
+       ⊎-elim
+       (λ x. absurd (no-post l p (b ∷ bs) x))
+       (λ x. ⊎-elim
+         (λ y. let r = posts-have l (p / L) count y in line-held L p (length bs) l some (r .0) (r .1))
+         (λ y. absurd (⊎-elim (λ e. let z : _≡_ {A = ℕ} 0 1 = cc in omega arith) (λ n. n) y))
+         (has-split (post l) (posts (p / L) count) (settle ∷ []) x))
+       (has-split (post l) (stores p (b ∷ bs)) (posts (p / L) count ++ (settle ∷ [])) h))

@@ -56,6 +56,18 @@ Ran-spends =
 abbrev pub Outside : ℕ → ℕ → ℕ → Type 0
 Outside p n q = p ≤ q → q < p + n → ⊥
 
+-- the call is one of the list
+abbrev pub Has : Write → List Write → Type 0
+Has w [] = ⊥
+Has w (v ∷ ws) = (w ≡ v) ⊎ Has w ws
+
+-- A round posts the lines that hold one of its places, and no other.
+abbrev pub Round-posts : Type 0
+Round-posts =
+    (L p : ℕ) (bs : List ℕ) → 0 < L
+    → ((i : ℕ) → i < length bs → Has (post ((p + i) / L)) (round L p bs))
+    × ((l : ℕ) → Has (post l) (round L p bs) → (i : ℕ) × (i < length bs) × ((p + i) / L ≡ l))
+
 -- After the first k calls of a round every settled place outside it is settled at its byte, and holds it after a power cut.
 abbrev pub Round-outside : Type 0
 Round-outside =
@@ -85,6 +97,7 @@ pub record Board-laws : Type 0 where
   pub settled-survives : Settled-survives
   pub bytes-follow : Bytes-follow
   pub ran-spends : Ran-spends
+  pub round-posts : Round-posts
   pub round-outside : Round-outside
   pub round-old-or-new : Round-old-or-new
   pub round-lasts : Round-lasts

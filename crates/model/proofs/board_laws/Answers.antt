@@ -1,6 +1,6 @@
 use Rattle.model.proofs.Places.{settled-stays, settled-survives, bytes-follow}
 use Rattle.model.proofs.Lists.{stored-lasts, cut-old-or-new, ran-spends}
-use Rattle.model.proofs.Rounds.{round-outside, round-old-or-new, round-lasts, round-bytes}
+use Rattle.model.proofs.Rounds.{round-posts, round-outside, round-old-or-new, round-lasts, round-bytes}
 use Rattle.model.proofs.board_laws.Needs as need
 
 pub returns : need.returns
@@ -12,6 +12,7 @@ returns c =
       settled-survives = settled-survives;
       bytes-follow = bytes-follow;
       ran-spends = ran-spends;
+      round-posts = round-posts;
       round-outside = round-outside;
       round-old-or-new = round-old-or-new;
       round-lasts = round-lasts;
