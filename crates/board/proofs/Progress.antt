@@ -11,7 +11,7 @@ use Rattle.std.specs.declared.option.Option.the-variants.{Some}
 use Rattle.std.specs.declared.result.Result.{Result}
 use Rattle.std.specs.declared.result.Result.the-variants.{Ok, Err}
 use Rattle.model.specs.Writes.{Meaning, bytes, Write, store, post, settle, Within, Granted, Ran, Broken}
-use Rattle.model.specs.Rounds.{stores, posts, lines, round, overwritten}
+use Rattle.model.specs.Rounds.{stores, posts, lines, stores-and-posts, round, overwritten}
 use Rattle.model.proofs.Lists.{ran-broken, ran-join, broken-first, broken-then, broken-out}
 use Rattle.model.proofs.Rounds.{length-stores, round-parts, round-bytes, line-rises}
 use Rattle.model.specs.declared.faults.BoardFault.{BoardFault}
@@ -86,43 +86,33 @@ module _ (L p : ℕ) (bs : List ℕ) (m : Meaning) (some : 0 < length bs) (on : 
   whole : (k : ℕ) (n : Meaning) → (k ≡ length (round L p bs)) × Ran L (round L p bs) m n → Whole L p bs m k n
   whole k n (count, ran) =
       let r : Ran L (take k (round L p bs)) m n = subst (λ ws. Ran L ws m n) (sym (take-all k (round L p bs) (omega arith))) ran in
-      let long : length bs ≤ k = omega (arith, ap length (sym (round-parts L p bs some)), length-append (stores p bs ++ posts (p / L) (lines L p (length bs))) (settle ∷ []), length-append (stores p bs) (posts (p / L) (lines L p (length bs))), length-stores p bs) in
+      let long : length bs ≤ k = omega (arith, ap length (sym (round-parts L p bs some)), length-append (stores-and-posts L p bs) (settle ∷ []), length-append (stores p bs) (posts (p / L) (lines L p (length bs))), length-stores p bs) in
       record { fits = fitting bs refl; count = count; ran = ran; present-bytes = round-bytes L p bs k m n r ∙ ap (overwritten (bytes m) p) (take-all k bs long) }
 
   short : (s : Stopped) (n : Meaning) → Fault 1 0 (s .fault) × Broken L (round L p bs) m (s .carried) n → Cut-short L p bs m s n
   short s n (fault, broken) =
       record { fits = fitting bs refl; fault = fault; broken = broken; present-bytes = round-bytes L p bs (s .carried) m n (broken .ran) }
 
-  front : List Write
-  front = stores p bs ++ posts (p / L) (lines L p (length bs))
-
-  parts : front ++ (settle ∷ []) ≡ round L p bs
-  unfolding front
-  parts = round-parts L p bs some
-
   -- the stores and posts are refused, and the settle with them
-  pub written-short : (s : Stopped) (n o : Meaning) (r : Result (Unit {0}) BoardFault) → Fault 1 0 (s .fault) × Broken L (stores p bs ++ posts (p / L) (lines L p (length bs))) m (s .carried) n → Wrote L settle n r o → Cut-short L p bs m s o
-  unfolding front
+  pub written-short : (s : Stopped) (n o : Meaning) (r : Result (Unit {0}) BoardFault) → Fault 1 0 (s .fault) × Broken L (stores-and-posts L p bs) m (s .carried) n → Wrote L settle n r o → Cut-short L p bs m s o
   written-short s n o r h w =
-      let same = settle-out L n o r (broken-out L front (s .carried) m n (h .1)) w in
-      let all = carried-first L front (settle ∷ []) m n s h in
-      short s o (all .0, subst (λ x. Broken L (round L p bs) m (s .carried) x) (sym same) (subst (λ ws. Broken L ws m (s .carried) n) parts (all .1)))
+      let same = settle-out L n o r (broken-out L (stores-and-posts L p bs) (s .carried) m n (h .1)) w in
+      let all = carried-first L (stores-and-posts L p bs) (settle ∷ []) m n s h in
+      short s o (all .0, subst (λ x. Broken L (round L p bs) m (s .carried) x) (sym same) (subst (λ ws. Broken L ws m (s .carried) n) (round-parts L p bs some) (all .1)))
 
   -- only the settle is refused
-  pub settled-short : (k : ℕ) (n o : Meaning) (f : BoardFault) → (k ≡ length (stores p bs ++ posts (p / L) (lines L p (length bs)))) × Ran L (stores p bs ++ posts (p / L) (lines L p (length bs))) m n → Refused L settle n f × (o ≡ n) → Cut-short L p bs m (record { carried = k; fault = f }) o
-  unfolding front
+  pub settled-short : (k : ℕ) (n o : Meaning) (f : BoardFault) → (k ≡ length (stores-and-posts L p bs)) × Ran L (stores-and-posts L p bs) m n → Refused L settle n f × (o ≡ n) → Cut-short L p bs m (record { carried = k; fault = f }) o
   settled-short k n o f h w =
       let last = stops L (settle ∷ []) 0 settle n n o f (omega arith) refl tt w in
-      let all = carried-then L front (settle ∷ []) k 0 m n o f h last in
+      let all = carried-then L (stores-and-posts L p bs) (settle ∷ []) k 0 m n o f h last in
       let e : k + 0 ≡ k = omega arith in
-      short (record { carried = k; fault = f }) o (all .0, subst (λ ws. Broken L ws m k o) parts (subst (λ i. Broken L (front ++ (settle ∷ [])) m i o) e (all .1)))
+      short (record { carried = k; fault = f }) o (all .0, subst (λ ws. Broken L ws m k o) (round-parts L p bs some) (subst (λ i. Broken L (stores-and-posts L p bs ++ (settle ∷ [])) m i o) e (all .1)))
 
   -- all is granted
-  pub settled-whole : (k : ℕ) (n o : Meaning) → (k ≡ length (stores p bs ++ posts (p / L) (lines L p (length bs)))) × Ran L (stores p bs ++ posts (p / L) (lines L p (length bs))) m n → Granted L settle n o → Whole L p bs m (k + 1) o
-  unfolding front
+  pub settled-whole : (k : ℕ) (n o : Meaning) → (k ≡ length (stores-and-posts L p bs)) × Ran L (stores-and-posts L p bs) m n → Granted L settle n o → Whole L p bs m (k + 1) o
   settled-whole k n o h g =
-      let all = carried-both L front (settle ∷ []) k 1 m n o h (refl, (o, g, refl)) in
-      whole (k + 1) o (subst (λ ws. (k + 1 ≡ length ws) × Ran L ws m o) parts all)
+      let all = carried-both L (stores-and-posts L p bs) (settle ∷ []) k 1 m n o h (refl, (o, g, refl)) in
+      whole (k + 1) o (subst (λ ws. (k + 1 ≡ length ws) × Ran L ws m o) (round-parts L p bs some) all)
 
 -- no bytes
 pub whole-none : (L p : ℕ) (bs : List ℕ) (m : Meaning) → length bs ≡ 0 → Whole L p bs m 0 m

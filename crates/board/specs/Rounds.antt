@@ -2,7 +2,7 @@
 use mathlib.Core.Path.{_≡_}
 use mathlib.Core.Logic.{_⊎_}
 use mathlib.Core.List.{List, [], _∷_}
-use Prim.Native.Nat.{ℕ, max, _+_, _≤_}
+use Prim.Native.Nat.{ℕ, max, _+_, _^_, _<_, _≤_}
 use lib.ListN.{length, take}
 use Rattle.std.specs.declared.result.Result.{Result}
 use Rattle.std.specs.Results.{Cases}
@@ -10,6 +10,10 @@ use Rattle.model.specs.Writes.{Meaning, bytes, Write, Ran, Broken}
 use Rattle.model.specs.Rounds.{round, overwritten}
 use Rattle.board.specs.declared.rounds.Stopped.{Stopped}
 use Rattle.model.specs.Faults.{Fault}
+
+-- there are n places from p on, at least one, on a board of that size, and their numbers fit a machine word
+abbrev pub On-board : ℕ → ℕ → ℕ → Type 0
+On-board p n size = (0 < n) × (p + n ≤ size) × (p + n < 2 ^ 64)
 
 -- calls that all lie on the board: carried out, with their number, or ended by the power
 abbrev pub Carried : ℕ → List Write → Meaning → Result ℕ Stopped → Meaning → Type 0

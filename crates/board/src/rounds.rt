@@ -1,11 +1,10 @@
 // One round of writing over any board: stores at rising places, posts of the lines that hold one, rising, and a settle.
 ghost use mathlib.Core.Path.{_≡_};
-ghost use mathlib.Core.List.{_++_};
-ghost use Prim.Native.Nat.{ℕ, _+_, _-_, _*_, _/_, _^_, _<_, _≤_};
+ghost use Prim.Native.Nat.{ℕ, _-_, _*_, _/_, _<_, _≤_};
 ghost use lib.ListN.{length};
 ghost use Rattle.std.specs.Results.{Cases};
-ghost use Rattle.model.specs.Rounds.{stores, posts, lines};
-ghost use Rattle.board.specs.Rounds.{Carried, Whole, Cut-short, Round};
+ghost use Rattle.model.specs.Rounds.{stores, posts, lines, stores-and-posts};
+ghost use Rattle.board.specs.Rounds.{On-board, Carried, Whole, Cut-short, Round};
 use crate::Board;
 use crate::Slip;
 use model::faults::BoardFault;
@@ -19,7 +18,7 @@ pub struct Stopped {
 
 // Stores the bytes from `at` on.
 fn store_bytes<B: Board>(board: &mut B, at: usize, bytes: &[u8]) -> Result<u64, Stopped>
-    requires { ⌜ at + length (now bytes) ≤ meaning (now board) .size ⌝ ∗ ⌜ at + length (now bytes) < 2 ^ 64 ⌝ }
+    requires { ⌜ On-board at (length (now bytes)) (meaning (now board) .size) ⌝ }
     ensures { λ r. ⌜ Carried width (stores at (now (bytes .entry))) (meaning (now (board .entry))) r (meaning (now (board .exit))) ⌝ }
 {
     for i in 0..bytes.len() {
@@ -62,7 +61,7 @@ fn post_range<B: Board>(
 
 // Posts each line that holds one of `count` places from `at` on: at most as many lines as places.
 fn post_lines<B: Board>(board: &mut B, at: usize, count: usize, slip: &Slip) -> Result<u64, Stopped>
-    requires { ⌜ 0 < count ⌝ ∗ ⌜ at + count ≤ meaning (now board) .size ⌝ ∗ ⌜ at + count < 2 ^ 64 ⌝ }
+    requires { ⌜ On-board at count (meaning (now board) .size) ⌝ }
     ensures carried { λ r. ⌜ Carried width (posts (at / width) (lines width at count)) (meaning (now (board .entry))) r (meaning (now (board .exit))) ⌝ }
     ensures few { λ _. ⌜ lines width at count ≤ count ⌝ }
 {
@@ -78,8 +77,8 @@ fn store_and_post<B: Board>(
     bytes: &[u8],
     slip: &Slip,
 ) -> Result<u64, Stopped>
-    requires { ⌜ 0 < length (now bytes) ⌝ ∗ ⌜ at + length (now bytes) ≤ meaning (now board) .size ⌝ ∗ ⌜ at + length (now bytes) < 2 ^ 64 ⌝ }
-    ensures { λ r. ⌜ Carried width (stores at (now (bytes .entry)) ++ posts (at / width) (lines width at (length (now (bytes .entry))))) (meaning (now (board .entry))) r (meaning (now (board .exit))) ⌝ }
+    requires { ⌜ On-board at (length (now bytes)) (meaning (now board) .size) ⌝ }
+    ensures { λ r. ⌜ Carried width (stores-and-posts width at (now (bytes .entry))) (meaning (now (board .entry))) r (meaning (now (board .exit))) ⌝ }
 {
     let stored = store_bytes(board, at, bytes)?;
     match post_lines(board, at, bytes.len(), slip) {
@@ -99,7 +98,7 @@ fn write_fitting<B: Board>(
     at: usize,
     bytes: &[u8],
 ) -> Result<u64, Stopped>
-    requires { ⌜ 0 < length (now bytes) ⌝ ∗ ⌜ at + length (now bytes) ≤ meaning (now board) .size ⌝ ∗ ⌜ at + length (now bytes) < 2 ^ 64 ⌝ }
+    requires { ⌜ On-board at (length (now bytes)) (meaning (now board) .size) ⌝ }
     ensures { λ r. ⌜ Cases r (λ k. Whole width at (now (bytes .entry)) (meaning (now (board .entry))) k (meaning (now (board .exit)))) (λ s. Cut-short width at (now (bytes .entry)) (meaning (now (board .entry))) s (meaning (now (board .exit)))) ⌝ }
 {
     let written = store_and_post(board, at, bytes, &slip);

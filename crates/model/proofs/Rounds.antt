@@ -10,7 +10,7 @@ use Rattle.std.proofs.shelf.Tests.{cases-eq}
 use Rattle.std.specs.declared.option.Option.{Option}
 use Rattle.model.specs.Places.{settled}
 use Rattle.model.specs.Writes.{Meaning, bytes, Write, store, post, settle, Granted, Cut, Ran, Spared}
-use Rattle.model.specs.Rounds.{stores, posts, lines, round, overwritten}
+use Rattle.model.specs.Rounds.{stores, posts, lines, stores-and-posts, round, overwritten}
 use Rattle.model.specs.Laws.{Once, Has, Outside, Round-posts, Round-outside, Round-old-or-new, Round-lasts, Round-bytes}
 use Rattle.model.proofs.Places.{holds, Rests, rests-steady, Shows, shows-steady, Ready, store-shows, post-ready, stays-ready, settle-rests, settled-survives}
 use Rattle.model.proofs.Lists.{ran-split, ran-size, spared-take, spared-append, once-take, once-before, ran-holds, cut-old-or-new, written, ran-bytes}
@@ -151,7 +151,7 @@ getD-posts l (suc n) zero lt = let e : l ≡ l + 0 = omega arith in ap post e
 getD-posts l (suc n) (suc k) lt = let e : suc l + k ≡ l + suc k = omega arith in getD-posts (suc l) n k (omega arith) ∙ ap post e
 
 -- a round of bytes: its stores and posts, and then its settle
-pub round-parts : (L p : ℕ) (bs : List ℕ) → 0 < length bs → (stores p bs ++ posts (p / L) (lines L p (length bs))) ++ (settle ∷ []) ≡ round L p bs
+pub round-parts : (L p : ℕ) (bs : List ℕ) → 0 < length bs → stores-and-posts L p bs ++ (settle ∷ []) ≡ round L p bs
 unfolding round
 round-parts L p [] lt = absurd (omega arith)
 round-parts L p (b ∷ bs) lt = append-assoc (stores p (b ∷ bs)) (posts (p / L) (lines L p (length (b ∷ bs)))) (settle ∷ [])
@@ -195,23 +195,24 @@ line-held L p n l some low high =
     ⊎-elim
     (λ e. let z : p + 0 ≡ p = omega arith in (0, omega arith, ap (λ q. q / L) z ∙ sym e))
     (λ ne.
-      let past : p < l * L = div-lt-iff-lt-mul some .0 (omega arith) in
-      let end : l * L ≤ p + n = le-div-iff-mul-le some .0 last in
-      let place : p + (l * L - p) ≡ l * L = omega arith in
-      (l * L - p, omega arith, ap (λ q. q / L) place ∙ mul-div-cancel l some))
+    let past : p < l * L = div-lt-iff-lt-mul some .0 (omega arith) in
+    let end : l * L ≤ p + n = le-div-iff-mul-le some .0 last in
+    let place : p + (l * L - p) ≡ l * L = omega arith in
+    (l * L - p, omega arith, ap (λ q. q / L) place ∙ mul-div-cancel l some))
     (cases-eq l (p / L))
 
 pub round-posts : Round-posts
 unfolding round
 round-posts L p [] some = (λ i lt. absurd (omega arith), λ l h. absurd h)
 round-posts L p (b ∷ bs) some =
-    let count = lines L p (length (b ∷ bs)) in
-    (λ i lt. let r = line-reached L p i (length bs) some lt in has-append (post ((p + i) / L)) (stores p (b ∷ bs)) _ (has-posts ((p + i) / L) (p / L) count (settle ∷ []) (r .0) (r .1)),
-     λ l h.
-       ⊎-elim
-       (λ x. absurd (no-post l p (b ∷ bs) x))
-       (λ x. ⊎-elim
-         (λ y. let r = posts-have l (p / L) count y in line-held L p (length bs) l some (r .0) (r .1))
-         (λ y. absurd (⊎-elim (λ e. let z : _≡_ {A = ℕ} 0 1 = cc in omega arith) (λ n. n) y))
-         (has-split (post l) (posts (p / L) count) (settle ∷ []) x))
-       (has-split (post l) (stores p (b ∷ bs)) (posts (p / L) count ++ (settle ∷ [])) h))
+    let count = lines L p (length (b ∷ bs)) in (
+      λ i lt. let r = line-reached L p i (length bs) some lt in has-append (post ((p + i) / L)) (stores p (b ∷ bs)) _ (has-posts ((p + i) / L) (p / L) count (settle ∷ []) (r .0) (r .1)),
+      λ l h.
+          ⊎-elim
+          (λ x. absurd (no-post l p (b ∷ bs) x))
+          (λ x. ⊎-elim
+          (λ y. let r = posts-have l (p / L) count y in line-held L p (length bs) l some (r .0) (r .1))
+          (λ y. absurd (⊎-elim (λ e. let z : _≡_ {A = ℕ} 0 1 = cc in omega arith) (λ n. n) y))
+          (has-split (post l) (posts (p / L) count) (settle ∷ []) x))
+          (has-split (post l) (stores p (b ∷ bs)) (posts (p / L) count ++ (settle ∷ [])) h),
+    )

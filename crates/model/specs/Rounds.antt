@@ -18,6 +18,10 @@ abbrev pub lines : ℕ → ℕ → ℕ → ℕ
 lines L p zero = 0
 lines L p (suc n) = (p + n) / L + 1 - p / L
 
+-- the calls of a round before its settle
+abbrev pub stores-and-posts : ℕ → ℕ → List ℕ → List Write
+stores-and-posts L p bs = stores p bs ++ posts (p / L) (lines L p (length bs))
+
 -- the writing calls of the round that writes bs from place p on; no bytes, no calls
 unfoldable pub round : ℕ → ℕ → List ℕ → List Write
 round L p [] = []

@@ -16,7 +16,7 @@ returns-in-Break-stored g c =
 pub post-lines-requires : need.post-lines-requires
 post-lines-requires g c κs =
     let size = ran-size (g .B·Board .width) (stores (c .args .at) (c .args .bytes .now)) _ _ (c .in-Continue-stored .ensures tt .1) in
-    (c .pre .0, (omega arith, omega arith))
+    (c .pre .0, omega arith, c .pre .2)
 
 pub add-result : need.add-result
 add-result g c =
