@@ -5,12 +5,12 @@ use mathlib.Core.List.{List, [], _∷_, _++_}
 use Prim.Native.Nat.{ℕ, zero, suc, _+_, _-_, _*_, _/_, _<_, _≤_}
 use native.Mathlib.Omega.{arith}
 use native.Mathlib.Nat.{mul-le-mul-right, div-mul-le-self, le-mul-of-pos-right, add-mul-div-right}
-use lib.ListN.{length, take, getD}
+use lib.ListN.{length, take}
 use Rattle.std.proofs.shelf.Lists.{length-append, take-all}
 use Rattle.std.specs.declared.option.Option.the-variants.{Some}
 use Rattle.std.specs.declared.result.Result.{Result}
 use Rattle.std.specs.declared.result.Result.the-variants.{Ok, Err}
-use Rattle.model.specs.Writes.{Meaning, bytes, Write, store, post, settle, Within, Granted, Ran, Broken}
+use Rattle.model.specs.Writes.{Meaning, bytes, Write, settle, Within, Granted, Ran, Broken}
 use Rattle.model.specs.Rounds.{stores, posts, lines, stores-and-posts, round, overwritten}
 use Rattle.model.proofs.Lists.{ran-broken, ran-join, broken-first, broken-then, broken-out}
 use Rattle.model.proofs.Rounds.{length-stores, round-parts, round-bytes, line-rises}

@@ -1,18 +1,16 @@
 -- What the line board's calls make of its table is what a board may do.
 use mathlib.Core.Path.{_≡_, refl, sym, ap, subst, _∙_}
-use mathlib.Core.Logic.{_≢_, inl, inr, ⊎-elim}
+use mathlib.Core.Logic.{_≢_, inl}
 use mathlib.Core.Bool.{Bool, true, false, cond}
-use mathlib.Core.List.{List, map}
-use Prim.Native.Nat.{ℕ, _*_, _/_, _<_}
-use native.Mathlib.Omega.{arith}
+use mathlib.Core.List.{List}
+use Prim.Native.Nat.{ℕ, _/_, _<_}
 use lib.Dec.{eqb}
-use lib.ListN.{length, getD, set}
-use Rattle.std.proofs.shelf.Tests.{cases-eq, cond-true, cond-false, eq-eqb, ne-eqb}
+use lib.ListN.{length, getD}
+use Rattle.std.proofs.shelf.Tests.{cond-true, cond-false, eq-eqb, ne-eqb}
 use Rattle.std.proofs.shelf.Lists.{getD-set-same, getD-set-other, length-set, length-map, getD-map}
-use Rattle.std.specs.declared.option.Option.{Option}
-use Rattle.std.specs.declared.option.Option.the-variants.{Some, None}
-use Rattle.model.specs.Places.{Place, settled, loose, marked, Stored, After-settle}
-use Rattle.model.specs.Writes.{store, post, settle, StoredAt, PostedAt}
+use Rattle.std.specs.declared.option.Option.the-variants.{None}
+use Rattle.model.specs.Places.{settled, marked, Stored, After-settle}
+use Rattle.model.specs.Writes.{store, post, settle}
 use Rattle.board.specs.declared.line.Cell.{Cell}
 use Rattle.board.specs.declared.line.Stores.{Stores}
 use Rattle.board.specs.declared.line.Stores.the-variants.{Never, Once, More}

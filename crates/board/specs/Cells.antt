@@ -1,5 +1,5 @@
 -- A cell of the line board, and what the calls make of it.
-use mathlib.Core.Bool.{Bool, true, false, cond}
+use mathlib.Core.Bool.{Bool, false, cond}
 use mathlib.Core.List.{List}
 use Prim.Native.Nat.{ℕ}
 use lib.Dec.{eqb, ltb}
@@ -28,7 +28,7 @@ settled-at b = record { present = b; settled = b; stores = Never; posted = false
 abbrev pub blank : Cell
 blank = settled-at 0
 
--- with its posting set, which a settled cell does not look at
+-- with its posting set; a settled cell stands the same with it and without
 abbrev pub posting : Bool → Cell → Cell
 posting v c = record { present = c .present; settled = c .settled; stores = c .stores; posted = v }
 

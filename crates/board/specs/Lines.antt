@@ -7,6 +7,9 @@ use denote.Ref.{now}
 use lib.Dec.{eqb}
 use lib.ListN.{length, getD, set}
 use Rattle.std.specs.declared.option.Option.{Option}
+use Rattle.std.specs.declared.result.Result.{Result}
+use Rattle.std.specs.Results.{isOk}
+use Rattle.model.specs.declared.faults.BoardFault.{BoardFault}
 use Rattle.model.specs.Places.{After-cut}
 use Rattle.model.specs.Writes.{Meaning, Write, After}
 use Rattle.board.specs.declared.line.Cell.{Cell}
@@ -22,6 +25,10 @@ line-meaning cs s = record { size = length cs; at = λ k. place-of (getD cs k bl
 
 abbrev pub line-board : LineBoard → Meaning
 line-board b = line-meaning (now (b .cells)) (b .supply)
+
+-- the board's table after a call: f of the table before if it was granted, else that table
+abbrev pub Leaves : Result (Unit {0}) BoardFault → (List Cell → List Cell) → LineBoard → LineBoard → Type 0
+Leaves r f b c = now (c .cells) ≡ cond (isOk r) (f (now (b .cells))) (now (b .cells))
 
 -- each cell by its place, the first at k
 abbrev pub each : (ℕ → Cell → Cell) → ℕ → List Cell → List Cell

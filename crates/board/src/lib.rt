@@ -11,12 +11,11 @@ pub mod through;
 
 use model::faults::BoardFault;
 
-// What a round of writing holds from its posts to its settle. It has no `Drop`, so it has to be spent: by `settle`, or by a
-// round that is given it. Spending is private to this crate.
+// What a round of writing holds from its posts to its settle. A value may be let go only if its type has `Drop`, and a slip has
+// none: it has to be spent, by `settle` or by a round that is given it. Spending is private to this crate.
 pub struct Slip(());
 
 impl Slip {
-    // Anyone may take a slip.
     pub fn take() -> Slip {
         Slip(())
     }

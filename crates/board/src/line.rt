@@ -1,17 +1,15 @@
 // The line board: bytes pass through a cache, and last once their line of 64 was posted and settled.
 ghost use mathlib.Core.Path.{_≡_};
-ghost use mathlib.Core.Bool.{cond};
-ghost use Prim.Native.Nat.{ℕ, _*_, _<_};
+ghost use Prim.Native.Nat.{_*_, _<_};
 ghost use denote.Ref.{now};
 ghost use lib.Dec.{lit≤};
 ghost use lib.ListN.{length};
-ghost use Rattle.std.specs.Results.{isOk};
 ghost use Rattle.std.specs.declared.option.Option.the-variants.{None};
 ghost use Rattle.model.specs.Places.{After-cut, is-loose};
 ghost use Rattle.model.specs.Writes.{Cut, loose-at, store, post, settle};
 ghost use Rattle.model.specs.Calls.{Wrote};
 ghost use Rattle.board.specs.Cells.{place-of, settled-at, after-store, after-settle, after-cut};
-ghost use Rattle.board.specs.Lines.{line-width, line-board, with-line, new-table, stored-table, posted-table, settled-table, cut-table, Table-after, Table-cut};
+ghost use Rattle.board.specs.Lines.{line-width, line-board, Leaves, with-line, new-table, stored-table, posted-table, settled-table, cut-table, Table-after, Table-cut};
 use crate::Board;
 use crate::Slip;
 use crate::supply::draw;
@@ -219,7 +217,7 @@ pub impl Board for LineBoard<'_> as Lined {
     }
 
     fn store(&mut self, place: usize, byte: u8) -> Result<(), BoardFault>
-        ensures { λ r. ⌜ Wrote line-width (store place byte) (line-board (now (self .entry))) r (line-board (now (self .exit))) ⌝ ∗ ⌜ now (now (self .exit) .cells) ≡ cond (isOk r) (stored-table place byte (now (now (self .entry) .cells))) (now (now (self .entry) .cells)) ⌝ }
+        ensures { λ r. ⌜ Wrote line-width (store place byte) (line-board (now (self .entry))) r (line-board (now (self .exit))) ⌝ ∗ ⌜ Leaves r (stored-table place byte) (now (self .entry)) (now (self .exit)) ⌝ }
     {
         if place >= self.size() {
             return Err(BoardFault::Outside { given: place });
@@ -230,7 +228,7 @@ pub impl Board for LineBoard<'_> as Lined {
     }
 
     fn post(&mut self, line: usize, slip: &Slip) -> Result<(), BoardFault>
-        ensures { λ r. ⌜ Wrote line-width (post line) (line-board (now (self .entry))) r (line-board (now (self .exit))) ⌝ ∗ ⌜ now (now (self .exit) .cells) ≡ cond (isOk r) (posted-table line (now (now (self .entry) .cells))) (now (now (self .entry) .cells)) ⌝ }
+        ensures { λ r. ⌜ Wrote line-width (post line) (line-board (now (self .entry))) r (line-board (now (self .exit))) ⌝ ∗ ⌜ Leaves r (posted-table line) (now (self .entry)) (now (self .exit)) ⌝ }
     {
         let size = self.size();
         if size == 0 || line > (size - 1) / WIDTH {
@@ -242,7 +240,7 @@ pub impl Board for LineBoard<'_> as Lined {
     }
 
     fn settle(&mut self, slip: Slip) -> Result<(), BoardFault>
-        ensures { λ r. ⌜ Wrote line-width settle (line-board (now (self .entry))) r (line-board (now (self .exit))) ⌝ ∗ ⌜ now (now (self .exit) .cells) ≡ cond (isOk r) (settled-table (now (now (self .entry) .cells))) (now (now (self .entry) .cells)) ⌝ }
+        ensures { λ r. ⌜ Wrote line-width settle (line-board (now (self .entry))) r (line-board (now (self .exit))) ⌝ ∗ ⌜ Leaves r settled-table (now (self .entry)) (now (self .exit)) ⌝ }
     {
         slip.spend();
         self.supply = draw(self.supply)?;

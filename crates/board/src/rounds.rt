@@ -1,5 +1,4 @@
 // One round of writing over any board: stores at rising places, posts of the lines that hold one, rising, and a settle.
-ghost use mathlib.Core.Path.{_≡_};
 ghost use Prim.Native.Nat.{ℕ, _-_, _*_, _/_, _<_, _≤_};
 ghost use lib.ListN.{length};
 ghost use Rattle.std.specs.Results.{Cases};
@@ -9,7 +8,7 @@ use crate::Board;
 use crate::Slip;
 use model::faults::BoardFault;
 
-// A round that was refused: the board's fault, and how many of the round's writing calls were carried out before it.
+// A round that was refused: the fault, and how many of the round's writing calls were carried out before it.
 #[derive(Clone, Copy)]
 pub struct Stopped {
     pub carried: u64,
@@ -90,8 +89,8 @@ fn store_and_post<B: Board>(
     }
 }
 
-// The round of a stretch that lies on the board. Where a store or a post is refused, the power is out, and so is the settle
-// that spends the slip then.
+// The round of a stretch that lies on the board. Where a store or a post is refused, there is no power left, and the settle that
+// spends the slip is refused too.
 fn write_fitting<B: Board>(
     board: &mut B,
     slip: Slip,

@@ -1,14 +1,11 @@
 // The through board: every byte lasts as soon as it is stored. Each place is a line of its own.
 ghost use mathlib.Core.Path.{_≡_};
-ghost use mathlib.Core.Bool.{cond};
 ghost use denote.Ref.{now};
 ghost use lib.Dec.{lit≤};
-ghost use lib.ListN.{set};
-ghost use Rattle.std.specs.Results.{isOk};
 ghost use Rattle.std.specs.declared.option.Option.the-variants.{None};
 ghost use Rattle.model.specs.Writes.{Cut, store, post, settle};
 ghost use Rattle.model.specs.Calls.{Wrote};
-ghost use Rattle.board.specs.Through.{through-width, through-board};
+ghost use Rattle.board.specs.Through.{through-width, through-board, Leaves, stored-bytes, same-bytes};
 use crate::Board;
 use crate::Slip;
 use crate::supply::draw;
@@ -59,7 +56,7 @@ pub impl Board for ThroughBoard<'_> as Through {
     }
 
     fn store(&mut self, place: usize, byte: u8) -> Result<(), BoardFault>
-        ensures { λ r. ⌜ Wrote through-width (store place byte) (through-board (now (self .entry))) r (through-board (now (self .exit))) ⌝ ∗ ⌜ now (now (self .exit) .bytes) ≡ cond (isOk r) (set (now (now (self .entry) .bytes)) place byte) (now (now (self .entry) .bytes)) ⌝ }
+        ensures { λ r. ⌜ Wrote through-width (store place byte) (through-board (now (self .entry))) r (through-board (now (self .exit))) ⌝ ∗ ⌜ Leaves r (stored-bytes place byte) (now (self .entry)) (now (self .exit)) ⌝ }
     {
         if place >= self.size() {
             return Err(BoardFault::Outside { given: place });
@@ -70,7 +67,7 @@ pub impl Board for ThroughBoard<'_> as Through {
     }
 
     fn post(&mut self, line: usize, slip: &Slip) -> Result<(), BoardFault>
-        ensures { λ r. ⌜ Wrote through-width (post line) (through-board (now (self .entry))) r (through-board (now (self .exit))) ⌝ ∗ ⌜ now (now (self .exit) .bytes) ≡ now (now (self .entry) .bytes) ⌝ }
+        ensures { λ r. ⌜ Wrote through-width (post line) (through-board (now (self .entry))) r (through-board (now (self .exit))) ⌝ ∗ ⌜ Leaves r same-bytes (now (self .entry)) (now (self .exit)) ⌝ }
     {
         if line >= self.size() {
             return Err(BoardFault::Outside { given: line });
@@ -80,7 +77,7 @@ pub impl Board for ThroughBoard<'_> as Through {
     }
 
     fn settle(&mut self, slip: Slip) -> Result<(), BoardFault>
-        ensures { λ r. ⌜ Wrote through-width settle (through-board (now (self .entry))) r (through-board (now (self .exit))) ⌝ ∗ ⌜ now (now (self .exit) .bytes) ≡ now (now (self .entry) .bytes) ⌝ }
+        ensures { λ r. ⌜ Wrote through-width settle (through-board (now (self .entry))) r (through-board (now (self .exit))) ⌝ ∗ ⌜ Leaves r same-bytes (now (self .entry)) (now (self .exit)) ⌝ }
     {
         slip.spend();
         self.supply = draw(self.supply)?;
@@ -88,7 +85,7 @@ pub impl Board for ThroughBoard<'_> as Through {
     }
 
     fn cut(&mut self, wanted: &[u8], supply: Option<u64>)
-        ensures { λ _. ⌜ Cut supply (through-board (now (self .entry))) (through-board (now (self .exit))) ⌝ ∗ ⌜ now (now (self .exit) .bytes) ≡ now (now (self .entry) .bytes) ⌝ }
+        ensures { λ _. ⌜ Cut supply (through-board (now (self .entry))) (through-board (now (self .exit))) ⌝ ∗ ⌜ now (now (self .exit) .bytes) ≡ same-bytes (now (now (self .entry) .bytes)) ⌝ }
     {
         self.supply = supply;
     }

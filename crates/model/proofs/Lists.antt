@@ -10,7 +10,7 @@ use Rattle.std.proofs.shelf.Lists.{take-more, take-all, length-take-le, length-
 use Rattle.std.specs.declared.option.Option.{Option}
 use Rattle.std.specs.declared.option.Option.the-variants.{Some, None}
 use Rattle.model.specs.Places.{Place, settled}
-use Rattle.model.specs.Writes.{Meaning, bytes, Write, store, post, settle, spent, Granted, Cut, Ran, Broken, Spares, Spared, Spared-line, rewritten}
+use Rattle.model.specs.Writes.{Meaning, bytes, Write, store, post, settle, spent, Granted, Ran, Broken, Spared, Spared-line, rewritten}
 use Rattle.model.specs.Laws.{Once, Spends, Stored-lasts, Cut-old-or-new, Ran-spends}
 use Rattle.model.proofs.Places.{Steady, holds, Rests, rests-steady, Shows, shows-steady, Ready, Either, either-steady, store-shows, store-either, post-ready, stays-ready, settle-rests, cut-either, bytes-follow}
 

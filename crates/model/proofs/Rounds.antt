@@ -7,9 +7,8 @@ use native.Mathlib.Omega.{arith}
 use native.Mathlib.Nat.{le-div-iff-mul-le, div-lt-iff-lt-mul, div-mul-le-self, mul-div-cancel}
 use lib.ListN.{length, take, getD, set}
 use Rattle.std.proofs.shelf.Tests.{cases-eq}
-use Rattle.std.specs.declared.option.Option.{Option}
 use Rattle.model.specs.Places.{settled}
-use Rattle.model.specs.Writes.{Meaning, bytes, Write, store, post, settle, Granted, Cut, Ran, Spared}
+use Rattle.model.specs.Writes.{Meaning, bytes, Write, store, post, settle, Granted, Ran, Spared}
 use Rattle.model.specs.Rounds.{stores, posts, lines, stores-and-posts, round, overwritten}
 use Rattle.model.specs.Laws.{Once, Has, Outside, Round-posts, Round-outside, Round-old-or-new, Round-lasts, Round-bytes}
 use Rattle.model.proofs.Places.{holds, Rests, rests-steady, Shows, shows-steady, Ready, store-shows, post-ready, stays-ready, settle-rests, settled-survives}

@@ -2,12 +2,11 @@
 use mathlib.Core.Path.{_≡_}
 use mathlib.Core.Logic.{_⊎_}
 use Prim.Native.Nat.{ℕ, _<_, _≤_}
-use Rattle.std.specs.declared.option.Option.{Option}
-use Rattle.std.specs.declared.option.Option.the-variants.{Some, None}
+use Rattle.std.specs.declared.option.Option.the-variants.{Some}
 use Rattle.std.specs.declared.result.Result.{Result}
 use Rattle.std.specs.Results.{Cases}
 use Rattle.model.specs.Places.{present}
-use Rattle.model.specs.Writes.{Meaning, Write, store, post, settle, Within, spent, Granted}
+use Rattle.model.specs.Writes.{Meaning, Write, store, post, settle, Within, Granted}
 use Rattle.model.specs.declared.faults.BoardFault.{BoardFault}
 use Rattle.model.specs.Faults.{Fault}
 

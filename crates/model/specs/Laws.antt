@@ -27,7 +27,7 @@ abbrev pub Once : ℕ → ℕ → List Write → Type 0
 Once q b [] = Unit {0}
 Once q b (w ∷ ws) = (Spares q w × Once q b ws) ⊎ ((w ≡ store q b) × Spared q ws)
 
--- A settled place that is stored at once holds, after a power cut, the old byte or the new one.
+-- A settled place that is stored at no more than once holds, after a power cut, the old byte or the new one.
 abbrev pub Cut-old-or-new : Type 0
 Cut-old-or-new =
     (L q a b : ℕ) (ws : List Write) (m n o : Meaning) (s : Option ℕ) → q < m .size → Once q b ws → m .at q ≡ settled a
@@ -42,12 +42,12 @@ Settled-survives =
 abbrev pub Bytes-follow : Type 0
 Bytes-follow = (L : ℕ) (w : Write) (m n : Meaning) → Granted L w m n → bytes n ≡ rewritten w (bytes m)
 
--- what is left of a supply after k calls, where it bears them
+-- k calls leave t of the supply; without limit it stays without limit
 abbrev pub Spends : ℕ → Option ℕ → Option ℕ → Type 0
 Spends k None t = t ≡ None
 Spends k (Some s) t = (k ≤ s) × (t ≡ Some (s - k))
 
--- A list of granted calls keeps the number of places, and the power bore each of them.
+-- A list of granted calls keeps the number of places and spends its length of the supply, which had as much.
 abbrev pub Ran-spends : Type 0
 Ran-spends =
     (L : ℕ) (ws : List Write) (m n : Meaning) → Ran L ws m n → (n .size ≡ m .size) × Spends (length ws) (m .supply) (n .supply)

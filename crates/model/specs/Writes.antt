@@ -2,7 +2,7 @@
 use mathlib.Core.Path.{_≡_}
 use mathlib.Core.Bool.{Bool, true, false, _&&_}
 use mathlib.Core.List.{List, [], _∷_, map}
-use Prim.Native.Nat.{ℕ, _-_, _*_, _/_, _<_, _≤_}
+use Prim.Native.Nat.{ℕ, _-_, _*_, _/_, _<_}
 use lib.Dec.{ltb}
 use lib.ListN.{length, take, set}
 use Rattle.std.specs.Iters.{counting}
@@ -82,22 +82,24 @@ pub record Broken (L : ℕ) (ws : List Write) (m : Meaning) (k : ℕ) (n : Meani
   pub supply : m .supply ≡ Some k
   pub ran : Ran L (take k ws) m n
 
--- no call of the list stores at place q
+-- the call does not store at place q
 abbrev pub Spares : ℕ → Write → Type 0
 Spares q (store p b) = q ≡ p → ⊥
 Spares q (post l) = Unit {0}
 Spares q settle = Unit {0}
 
+-- no call of the list stores at place q
 abbrev pub Spared : ℕ → List Write → Type 0
 Spared q [] = Unit {0}
 Spared q (w ∷ ws) = Spares q w × Spared q ws
 
--- no call of the list stores in the line of place q
+-- the call does not store in the line of place q
 abbrev pub Spares-line : ℕ → ℕ → Write → Type 0
 Spares-line L q (store p b) = q / L ≡ p / L → ⊥
 Spares-line L q (post l) = Unit {0}
 Spares-line L q settle = Unit {0}
 
+-- no call of the list stores in the line of place q
 abbrev pub Spared-line : ℕ → ℕ → List Write → Type 0
 Spared-line L q [] = Unit {0}
 Spared-line L q (w ∷ ws) = Spares-line L q w × Spared-line L q ws

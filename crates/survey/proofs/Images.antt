@@ -2,11 +2,11 @@
 use mathlib.Core.Path.{_≡_, refl, sym, ap, _∙_}
 use mathlib.Core.Logic.{inl, inr, ⊎-elim}
 use mathlib.Core.List.{List}
-use Prim.Native.Nat.{ℕ, _<_}
+use Prim.Native.Nat.{ℕ}
 use native.Mathlib.Omega.{arith}
 use lib.ListN.{length, getD}
 use Rattle.std.proofs.shelf.Lists.{ext-getD}
-use Rattle.survey.specs.Record.{record-size, Between, Sure}
+use Rattle.survey.specs.Record.{record-size, Sure}
 
 pub sure-from : (low high whole : List ℕ) → length whole ≡ record-size → low ≡ whole → high ≡ whole → Sure low high whole
 sure-from low high whole size e f image b =

@@ -2,16 +2,16 @@
 use mathlib.Core.Path.{_≡_, refl, sym, ap, subst, _∙_}
 use mathlib.Core.Logic.{_⊎_, inl, inr, ⊎-elim}
 use mathlib.Core.List.{List}
-use Prim.Native.Nat.{ℕ, min, _+_, _<_, _≤_}
+use Prim.Native.Nat.{ℕ, _+_, _<_, _≤_}
 use native.Mathlib.Omega.{arith}
-use native.Mathlib.Nat.{min-eq-right}
-use lib.ListN.{length, take, getD}
+use native.Mathlib.Nat.{min-eq-left, min-eq-right}
+use lib.ListN.{length, getD}
 use Rattle.std.proofs.shelf.Lists.{take-all}
 use Rattle.std.specs.declared.option.Option.{Option}
 use Rattle.std.specs.declared.option.Option.the-variants.{Some, None}
 use Rattle.std.specs.declared.result.Result.{Result}
 use Rattle.std.specs.declared.result.Result.the-variants.{Ok, Err}
-use Rattle.model.specs.Places.{settled, present}
+use Rattle.model.specs.Places.{present}
 use Rattle.model.specs.Writes.{Meaning, Cut, Ran}
 use Rattle.model.specs.Rounds.{round}
 use Rattle.model.specs.Laws.{Spends}
@@ -20,7 +20,7 @@ use Rattle.model.proofs.Lists.{ran-size, ran-spends}
 use Rattle.model.proofs.Rounds.{round-lasts, round-old-or-new}
 use Rattle.board.specs.declared.rounds.Stopped.{Stopped}
 use Rattle.board.specs.Rounds.{Round, Whole, Cut-short, Too-long}
-use Rattle.survey.specs.Record.{record-at, record-size, record-end, old-record, new-record, Prepared, Updated, calls, Shown, Old-or-new}
+use Rattle.survey.specs.Record.{record-at, record-end, old-record, new-record, Prepared, Updated, calls, Shown, Old-or-new}
 
 -- a round without limit on a board that is long enough is carried out whole
 unlimited : (L : ℕ) (m n : Meaning) (r : Result ℕ Stopped) → m .supply ≡ None → record-end ≤ m .size → Round L record-at old-record m r n → Ran L (round L record-at old-record) m n
@@ -43,27 +43,41 @@ spends-calls L None t h = refl
 spends-calls L (Some s) t h = sym (min-eq-right (h .0))
 
 -- the whole round was carried out
-pub updated-calls : (L k : ℕ) (s : Option ℕ) (m n : Meaning) → Prepared s m → Whole L record-at new-record m k n → k ≡ calls L s
-updated-calls L k s m n p w =
+whole-calls : (L k : ℕ) (s : Option ℕ) (m n : Meaning) → Prepared s m → Whole L record-at new-record m k n → k ≡ calls L s
+whole-calls L k s m n p w =
     w .count ∙ spends-calls L s (n .supply) (subst (λ t. Spends (length (round L record-at new-record)) t (n .supply)) (p .supply) (ran-spends L _ m n (w .ran) .1))
 
-pub updated-whole : (L k : ℕ) (s : Option ℕ) (m n : Meaning) → Prepared s m → Whole L record-at new-record m k n → Updated L n
+-- power ended the round
+short-calls : (L k : ℕ) (s : Option ℕ) → s ≡ Some k → k < length (round L record-at new-record) → k ≡ calls L s
+short-calls L k s e lt = sym (ap (calls L) e ∙ min-eq-left (omega arith))
+
+pub updated-whole : (L k : ℕ) (s : Option ℕ) (m n : Meaning) → Prepared s m → Whole L record-at new-record m k n → Updated L s k n
 updated-whole L k s m n p w =
     record {
+      count = whole-calls L k s m n p w;
       start = m;
-      old = (s, p);
-      done = k;
+      old = p;
       ran = subst (λ ws. Ran L ws m n) (sym (take-all k (round L record-at new-record) (omega (arith, w .count)))) (w .ran);
     }
 
+pub updated-short : (L : ℕ) (s : Option ℕ) (m n : Meaning) (t : Stopped) → Prepared s m → Cut-short L record-at new-record m t n ⊎ Too-long record-at new-record m t n → Updated L s (t .carried) n
+updated-short L s m n t p (inl c) =
+    record {
+      count = short-calls L (t .carried) s (sym (p .supply) ∙ c .broken .supply) (c .broken .short);
+      start = m;
+      old = p;
+      ran = c .broken .ran;
+    }
+updated-short L s m n t p (inr l) = absurd (l .outside (p .size))
+
 -- after a power cut every byte of the record is old or new
-pub found-either : (L : ℕ) (m n : Meaning) (t : Option ℕ) (r : List ℕ) → Updated L m → Cut t m n → Shown n r → Old-or-new r
-found-either L m n t r u c shown k lt =
+pub found-either : (L j : ℕ) (s t : Option ℕ) (m n : Meaning) (r : List ℕ) → Updated L s j m → Cut t m n → Shown n r → Old-or-new r
+found-either L j s t m n r u c shown k lt =
     let start = u .start in
-    let p = u .old .1 in
+    let p = u .old in
     let new = getD new-record k 0 in
-    let either = round-old-or-new L record-at new-record (u .done) k (getD old-record k 0) start m n t lt (omega (arith, p .size)) (p .places k lt) (u .ran) c in
+    let either = round-old-or-new L record-at new-record j k (getD old-record k 0) start m n t lt (omega (arith, p .size)) (p .places k lt) (u .ran) c in
     ⊎-elim (λ e. inl (shown .bytes k lt ∙ ap present e)) (λ e. inr (shown .bytes k lt ∙ ap present e)) either
 
-pub updated-size : (L : ℕ) (m : Meaning) → Updated L m → record-end ≤ m .size
-updated-size L m u = subst (λ k. record-end ≤ k) (sym (ran-size L _ (u .start) m (u .ran))) (u .old .1 .size)
+pub updated-size : (L j : ℕ) (s : Option ℕ) (m : Meaning) → Updated L s j m → record-end ≤ m .size
+updated-size L j s m u = subst (λ k. record-end ≤ k) (sym (ran-size L _ (u .start) m (u .ran))) (u .old .size)

@@ -34,17 +34,17 @@ pub record Prepared (s : Option ℕ) (m : Meaning) : Type 0 where
   pub supply : m .supply ≡ s
   pub places : (k : ℕ) → k < record-size → m .at (record-at + k) ≡ settled (getD old-record k 0)
 
--- the first calls of the round that writes the new record over the old one were carried out
-pub record Updated (L : ℕ) (n : Meaning) : Type 0 where
-  pub start : Meaning
-  pub old : (s : Option ℕ) × Prepared s start
-  pub done : ℕ
-  pub ran : Ran L (take done (round L record-at new-record)) start n
-
--- how many calls a supply carries
+-- how many calls of the update a supply carries
 abbrev pub calls : ℕ → Option ℕ → ℕ
 calls L None = length (round L record-at new-record)
 calls L (Some s) = min s (length (round L record-at new-record))
+
+-- k calls, as many as the supply s carries, were carried out of the round that writes the new record over the old one
+pub record Updated (L : ℕ) (s : Option ℕ) (k : ℕ) (n : Meaning) : Type 0 where
+  pub count : k ≡ calls L s
+  pub start : Meaning
+  pub old : Prepared s start
+  pub ran : Ran L (take k (round L record-at new-record)) start n
 
 -- every byte is the old record's or the new one's
 abbrev pub Old-or-new : List ℕ → Type 0

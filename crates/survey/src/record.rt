@@ -3,7 +3,7 @@ ghost use mathlib.Core.Path.{_≡_};
 ghost use Prim.Native.Nat.{ℕ, _+_, _<_, _≤_};
 ghost use lib.ListN.{getD};
 ghost use Rattle.model.specs.Places.{present};
-ghost use Rattle.survey.specs.Record.{record-at, record-size, record-end, Prepared, Updated, calls, Shown, Old-or-new};
+ghost use Rattle.survey.specs.Record.{record-at, record-size, record-end, Prepared, Updated, Shown, Old-or-new};
 use board::Board;
 use board::Slip;
 use board::rounds::write_round;
@@ -30,8 +30,7 @@ fn prepare<B: Board>(board: &mut B, supply: Option<u64>)
 
 // Updates the record, and answers how many writing calls were carried out.
 pub(crate) fn update<B: Board>(board: &mut B, supply: Option<u64>) -> u64
-    ensures updated { λ _. ⌜ (record-end ≤ meaning (now (board .entry)) .size → Updated width (meaning (now (board .exit)))) ⌝ }
-    ensures carried { λ r. ⌜ (record-end ≤ meaning (now (board .entry)) .size → r ≡ calls width supply) ⌝ }
+    ensures { λ r. ⌜ (record-end ≤ meaning (now (board .entry)) .size → Updated width supply r (meaning (now (board .exit)))) ⌝ }
 {
     prepare(board, supply);
     let slip = Slip::take();

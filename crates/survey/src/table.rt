@@ -66,14 +66,14 @@ fn marks<B: Peek>(board: &B) -> [u8; LEN]
 
 // Whether every image with each byte from `low` or from `high` is this record.
 fn is_sure(low: &[u8; LEN], high: &[u8; LEN], whole: &[u8; LEN]) -> bool
-    ensures one { λ r. ⌜ (r ≡ true → Sure (now (low .entry)) (now (high .entry)) (now (whole .entry))) ⌝ }
-    ensures several { λ r. ⌜ (r ≡ false → Sure (now (low .entry)) (now (high .entry)) (now (whole .entry)) → ⊥) ⌝ }
+    ensures sure { λ r. ⌜ (r ≡ true → Sure (now (low .entry)) (now (high .entry)) (now (whole .entry))) ⌝ }
+    ensures unsure { λ r. ⌜ (r ≡ false → Sure (now (low .entry)) (now (high .entry)) (now (whole .entry)) → ⊥) ⌝ }
 {
     *low == *whole && *high == *whole
 }
 
-// Whether the record could be found torn, from what cuts leave that keep as much of the old and of the new record as they can:
-// unless it is sure to be the old one, or sure to be the new one.
+// Whether the record could be found torn, where a cut may leave each byte as in `low` or as in `high`: it could, unless it is sure
+// to be the old record, or sure to be the new one.
 fn may_tear(low: &[u8; LEN], high: &[u8; LEN]) -> bool
     ensures whole { λ r. ⌜ (r ≡ false → Sure (now (low .entry)) (now (high .entry)) old-record ⊎ Sure (now (low .entry)) (now (high .entry)) new-record) ⌝ }
     ensures torn { λ r. ⌜ (r ≡ true → Sure (now (low .entry)) (now (high .entry)) old-record ⊎ Sure (now (low .entry)) (now (high .entry)) new-record → ⊥) ⌝ }

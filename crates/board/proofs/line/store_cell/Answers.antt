@@ -1,5 +1,4 @@
 use mathlib.Core.Path.{_≡_, sym, subst}
-use native.Mathlib.Omega.{arith}
 use lib.ListN.{set}
 use Rattle.model.specs.Writes.{store}
 use Rattle.board.specs.Lines.{stored-table, Table-after}

@@ -1,5 +1,3 @@
-use mathlib.Core.Path.{_≡_}
-use Prim.Native.Nat.{_+_, _-_, _/_}
 use native.Mathlib.Omega.{arith}
 use Rattle.board.proofs.Progress.{reached, carried-posts}
 use Rattle.board.proofs.rounds.post_lines.Needs as need

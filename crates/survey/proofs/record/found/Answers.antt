@@ -6,6 +6,8 @@ use Rattle.survey.proofs.record.found.Needs as need
 
 pub returns : need.returns
 returns g c long =
-    let u = c .update .ensures .updated long in
+    let L = g .B·Board .width in
+    let u = c .update .ensures long in
     let cut = c .cut .ensures in
-    found-either (g .B·Board .width) _ _ _ (c .read .result) u cut (c .read .ensures (subst (λ k. record-end ≤ k) (sym (cut .size)) (updated-size (g .B·Board .width) _ u)))
+    let size = subst (λ k. record-end ≤ k) (sym (cut .size)) (updated-size L (c .update .result) (c .args .supply) _ u) in
+    found-either L (c .update .result) (c .args .supply) _ _ _ (c .read .result) u cut (c .read .ensures size)
