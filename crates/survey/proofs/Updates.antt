@@ -20,7 +20,7 @@ use Rattle.model.proofs.Lists.{ran-size, ran-spends}
 use Rattle.model.proofs.Rounds.{round-lasts, round-old-or-new}
 use Rattle.board.specs.declared.rounds.Stopped.{Stopped}
 use Rattle.board.specs.Rounds.{Round, Whole, Cut-short, Too-long}
-use Rattle.survey.specs.Record.{record-at, record-end, old-record, new-record, Prepared, Updated, calls, Shown, Old-or-new}
+use Rattle.survey.specs.Record.{record-at, record-end, old-record, new-record, Prepared, Updated, calls, Found, Old-or-new}
 
 -- a round without limit on a board that is long enough is carried out whole
 unlimited : (L : ℕ) (m n : Meaning) (r : Result ℕ Stopped) → m .supply ≡ None → record-end ≤ m .size → Round L record-at old-record m r n → Ran L (round L record-at old-record) m n
@@ -71,13 +71,12 @@ updated-short L s m n t p (inl c) =
 updated-short L s m n t p (inr l) = absurd (l .outside (p .size))
 
 -- after a power cut every byte of the record is old or new
-pub found-either : (L j : ℕ) (s t : Option ℕ) (m n : Meaning) (r : List ℕ) → Updated L s j m → Cut t m n → Shown n r → Old-or-new r
-found-either L j s t m n r u c shown k lt =
-    let start = u .start in
+pub found-either : (L : ℕ) (s : Option ℕ) (r : List ℕ) (n : Meaning) → Found L s r n → Old-or-new r
+found-either L s r n f k lt =
+    let u = f .updated in
     let p = u .old in
-    let new = getD new-record k 0 in
-    let either = round-old-or-new L record-at new-record j k (getD old-record k 0) start m n t lt (omega (arith, p .size)) (p .places k lt) (u .ran) c in
-    ⊎-elim (λ e. inl (shown .bytes k lt ∙ ap present e)) (λ e. inr (shown .bytes k lt ∙ ap present e)) either
+    ⊎-elim (λ e. inl (f .shown .bytes k lt ∙ ap present e)) (λ e. inr (f .shown .bytes k lt ∙ ap present e))
+    (round-old-or-new L record-at new-record (f .carried) k (getD old-record k 0) (u .start) (f .before) n None lt (omega (arith, p .size)) (p .places k lt) (u .ran) (f .cut))
 
 pub updated-size : (L j : ℕ) (s : Option ℕ) (m : Meaning) → Updated L s j m → record-end ≤ m .size
 updated-size L j s m u = subst (λ k. record-end ≤ k) (sym (ran-size L _ (u .start) m (u .ran))) (u .old .size)

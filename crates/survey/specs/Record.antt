@@ -9,7 +9,7 @@ use lib.ListN.{length, take, getD}
 use Rattle.std.specs.declared.option.Option.{Option}
 use Rattle.std.specs.declared.option.Option.the-variants.{Some, None}
 use Rattle.model.specs.Places.{settled, present}
-use Rattle.model.specs.Writes.{Meaning, Ran}
+use Rattle.model.specs.Writes.{Meaning, Cut, Ran}
 use Rattle.model.specs.Rounds.{round}
 
 -- the record's first place, its length, and the place behind it
@@ -54,6 +54,14 @@ Old-or-new r = (k : ℕ) → k < record-size → (getD r k 0 ≡ getD old-record
 pub record Shown (m : Meaning) (r : List ℕ) : Type 0 where
   pub size : length r ≡ record-size
   pub bytes : (k : ℕ) → k < record-size → getD r k 0 ≡ present (m .at (record-at + k))
+
+-- the record was updated with the supply s, the power was cut, and r are its present bytes then
+pub record Found (L : ℕ) (s : Option ℕ) (r : List ℕ) (n : Meaning) : Type 0 where
+  pub carried : ℕ
+  pub before : Meaning
+  pub updated : Updated L s carried before
+  pub cut : Cut None before n
+  pub shown : Shown n r
 
 -- an image of the record in which each byte is that of low or that of high
 pub record Between (low high image : List ℕ) : Type 0 where

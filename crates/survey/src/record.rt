@@ -3,7 +3,7 @@ ghost use mathlib.Core.Path.{_≡_};
 ghost use Prim.Native.Nat.{ℕ, _+_, _<_, _≤_};
 ghost use lib.ListN.{getD};
 ghost use Rattle.model.specs.Places.{present};
-ghost use Rattle.survey.specs.Record.{record-at, record-size, record-end, Prepared, Updated, Shown, Old-or-new};
+ghost use Rattle.survey.specs.Record.{record-at, record-size, record-end, Prepared, Updated, Shown, Found, Old-or-new};
 use board::Board;
 use board::Slip;
 use board::rounds::write_round;
@@ -74,7 +74,8 @@ fn image(wanted: &[u8; LEN]) -> [u8; END]
 
 // Updates the record, cuts the power with these bytes wanted where the record is, and answers what it holds then.
 pub(crate) fn found<B: Board>(board: &mut B, supply: Option<u64>, wanted: &[u8; LEN]) -> [u8; LEN]
-    ensures { λ r. ⌜ (record-end ≤ meaning (now (board .entry)) .size → Old-or-new r) ⌝ }
+    ensures found { λ r. ⌜ (record-end ≤ meaning (now (board .entry)) .size → Found width supply r (meaning (now (board .exit)))) ⌝ }
+    ensures either { λ r. ⌜ (record-end ≤ meaning (now (board .entry)) .size → Old-or-new r) ⌝ }
 {
     let _ = update(board, supply);
     board.cut(&image(wanted), None);

@@ -1,13 +1,11 @@
 // The survey of one board: a line for each supply.
 ghost use mathlib.Core.Path.{_≡_};
 ghost use mathlib.Core.Logic.{_⊎_};
-ghost use mathlib.Core.Bool.{Bool, true, false};
+ghost use mathlib.Core.Bool.{true, false};
 ghost use Prim.Native.Nat.{ℕ, _+_, _<_};
 ghost use denote.Ref.{now};
 ghost use lib.ListN.{getD};
 ghost use Rattle.model.specs.Writes.{loose-at};
-ghost use Rattle.board.specs.Lines.{line-board};
-ghost use Rattle.board.specs.Through.{through-board};
 ghost use Rattle.survey.specs.Record.{record-at, record-size, old-record, new-record, Sure, mark};
 use crate::record::AT;
 use crate::record::LEN;
@@ -23,24 +21,18 @@ use board::through::ThroughBoard;
 use std::io;
 
 // A board of which it can be seen which places are loose.
-pub trait Peek {
-    ghost loose: { Self → ℕ → Bool };
-
+pub trait Peek: Board {
     fn is_loose(&self, place: usize) -> bool
-        ensures { λ r. ⌜ r ≡ loose (now (self .entry)) place ⌝ };
+        ensures { λ r. ⌜ r ≡ loose-at (Self·Board .meaning (now (self .entry))) place ⌝ };
 }
 
 pub impl Peek for LineBoard<'_> as LinePeek {
-    ghost loose = { λ b. loose-at (line-board b) };
-
     fn is_loose(&self, place: usize) -> bool {
         LineBoard::is_loose(self, place)
     }
 }
 
 pub impl Peek for ThroughBoard<'_> as ThroughPeek {
-    ghost loose = { λ b. loose-at (through-board b) };
-
     fn is_loose(&self, place: usize) -> bool {
         false
     }
@@ -55,7 +47,7 @@ fn mark(loose: bool) -> u8
 
 // A mark for each place of the record.
 fn marks<B: Peek>(board: &B) -> [u8; LEN]
-    ensures { λ r. ⌜ ((k : ℕ) → k < record-size → getD r k 0 ≡ mark (loose (now (board .entry)) (record-at + k))) ⌝ }
+    ensures { λ r. ⌜ ((k : ℕ) → k < record-size → getD r k 0 ≡ mark (loose-at (B·Board .meaning (now (board .entry))) (record-at + k))) ⌝ }
 {
     let mut marks = [0; LEN];
     for i in 0..LEN {
@@ -89,7 +81,7 @@ fn text(bytes: &[u8]) -> &str {
 }
 
 // Prints the line of one supply, and answers whether the record could be found torn.
-fn line<B: Board + Peek>(rt: &LibcRuntime, board: &mut B, supply: u64) -> io::Result<bool> {
+fn line<B: Peek>(rt: &LibcRuntime, board: &mut B, supply: u64) -> io::Result<bool> {
     let low = found(board, Some(supply), &OLD);
     let high = found(board, Some(supply), &NEW);
     let carried = update(board, Some(supply));
@@ -105,7 +97,7 @@ fn line<B: Board + Peek>(rt: &LibcRuntime, board: &mut B, supply: u64) -> io::Re
 }
 
 // Prints the whole table of one board.
-pub(crate) fn survey<B: Board + Peek>(rt: &LibcRuntime, board: &mut B) -> io::Result<()> {
+pub(crate) fn survey<B: Peek>(rt: &LibcRuntime, board: &mut B) -> io::Result<()> {
     println!(rt, "supply carried  loose     old kept  new kept")?;
     let needed = update(board, None);
     let mut torn = 0u64;
