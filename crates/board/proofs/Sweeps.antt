@@ -9,9 +9,10 @@ use lib.Dec.{eqb}
 use lib.ListN.{length, getD, set}
 use Rattle.std.proofs.shelf.Tests.{cases-eq, cases-lt, cond-true, cond-false, eq-eqb, ne-eqb}
 use Rattle.std.proofs.shelf.Lists.{getD-set-same, getD-set-other, length-set, ext-getD}
+use Rattle.model.specs.Places.{After-cut}
 use Rattle.board.specs.declared.line.Cell.{Cell}
-use Rattle.board.specs.Cells.{blank, posting}
-use Rattle.board.specs.Lines.{each, with-line}
+use Rattle.board.specs.Cells.{place-of, blank, posting, after-cut, wanted-at}
+use Rattle.board.specs.Lines.{line-width, each, with-line}
 
 -- R relates what a place held to what it holds now
 pub record Swept (R : ℕ → Cell → Cell → Type 0) (a i : ℕ) (xs ys : List Cell) : Type 0 where
@@ -63,6 +64,10 @@ same-each f xs ys long at =
 abbrev pub By : (ℕ → Cell → Cell) → ℕ → Cell → Cell → Type 0
 By f k x y = y ≡ f k x
 
+-- the place holds what a power cut leaves of it, where these bytes are wanted, and that is one that a board may leave
+abbrev pub Cut-by : List ℕ → ℕ → Cell → Cell → Type 0
+Cut-by ws k x y = (y ≡ after-cut (wanted-at ws k) x) × After-cut (place-of x) (place-of y)
+
 pub swept-all : (f : ℕ → Cell → Cell) (R : ℕ → Cell → Cell → Type 0) (i : ℕ) (xs ys : List Cell) → ((k : ℕ) (x y : Cell) → R k x y → By f k x y) → length xs ≤ i → Swept R 0 i xs ys → ys ≡ each f 0 xs
 swept-all f R i xs ys by all s = same-each f xs ys (s .long) (λ k lt. by k (getD xs k blank) (getD ys k blank) (s .done k (omega arith) (omega arith)))
 
@@ -71,11 +76,11 @@ each-map g k [] = refl
 each-map g k (x ∷ xs) = ap (λ ys. g x ∷ ys) (each-map g (suc k) xs)
 
 -- the cells of one line
-pub swept-line : (v : Bool) (line a i : ℕ) (xs ys : List Cell) → a ≡ line * 64 → i ≤ a + 64 → ((k : ℕ) → k < length xs → k < a + 64 → k < i) → Swept (By (λ _ c. posting v c)) a i xs ys → ys ≡ with-line v line xs
+pub swept-line : (v : Bool) (line a i : ℕ) (xs ys : List Cell) → a ≡ line * line-width → i ≤ a + line-width → ((k : ℕ) → k < length xs → k < a + line-width → k < i) → Swept (By (λ _ c. posting v c)) a i xs ys → ys ≡ with-line v line xs
 swept-line v line a i xs ys first most reach s =
-    same-each (λ k c. cond (eqb (k / 64) line) (posting v c) c) xs ys (s .long)
+    same-each (λ k c. cond (eqb (k / line-width) line) (posting v c) c) xs ys (s .long)
     (λ k lt.
     ⊎-elim
-    (λ e. s .done k (omega arith) (reach k lt (omega arith)) ∙ sym (cond-true _ _ _ (eq-eqb (k / 64) line e)))
-    (λ ne. ⊎-elim (λ l. s .before k l) (λ l. s .ahead k (omega arith)) (cases-lt k a) ∙ sym (cond-false _ _ _ (ne-eqb (k / 64) line ne)))
-    (cases-eq (k / 64) line))
+    (λ e. s .done k (omega arith) (reach k lt (omega arith)) ∙ sym (cond-true _ _ _ (eq-eqb (k / line-width) line e)))
+    (λ ne. ⊎-elim (λ l. s .before k l) (λ l. s .ahead k (omega arith)) (cases-lt k a) ∙ sym (cond-false _ _ _ (ne-eqb (k / line-width) line ne)))
+    (cases-eq (k / line-width) line))

@@ -15,7 +15,7 @@ use Rattle.board.specs.declared.line.Cell.{Cell}
 use Rattle.board.specs.declared.line.Stores.{Stores}
 use Rattle.board.specs.declared.line.Stores.the-variants.{Never, Once, More}
 use Rattle.board.specs.Cells.{standing, place-of, blank, settled-at, posting, after-store, store-over, after-settle}
-use Rattle.board.specs.Lines.{with-line, stored-table, posted-table, settled-table, Table-after}
+use Rattle.board.specs.Lines.{line-width, with-line, stored-table, posted-table, settled-table, Table-after}
 use Rattle.board.proofs.Sweeps.{length-each, getD-each}
 
 -- one cell
@@ -38,36 +38,36 @@ settling More a s true = refl
 settling More a s false = inl refl
 
 -- a line with its posting set
-line-inside : (v : Bool) (l : ℕ) (cs : List Cell) (k : ℕ) → k < length cs → k / 64 ≡ l → place-of (getD (with-line v l cs) k blank) ≡ marked v (place-of (getD cs k blank))
+line-inside : (v : Bool) (l : ℕ) (cs : List Cell) (k : ℕ) → k < length cs → k / line-width ≡ l → place-of (getD (with-line v l cs) k blank) ≡ marked v (place-of (getD cs k blank))
 line-inside v l cs k lt e =
     let c = getD cs k blank in
-    ap place-of (getD-each (λ j x. cond (eqb (j / 64) l) (posting v x) x) cs k lt ∙ cond-true _ _ _ (eq-eqb (k / 64) l e))
+    ap place-of (getD-each (λ j x. cond (eqb (j / line-width) l) (posting v x) x) cs k lt ∙ cond-true _ _ _ (eq-eqb (k / line-width) l e))
     ∙ posting-marks (c .stores) (c .present) (c .settled) (c .posted) v
 
-line-apart : (v : Bool) (l : ℕ) (cs : List Cell) (k : ℕ) → k < length cs → (k / 64 ≡ l → ⊥) → place-of (getD (with-line v l cs) k blank) ≡ place-of (getD cs k blank)
+line-apart : (v : Bool) (l : ℕ) (cs : List Cell) (k : ℕ) → k < length cs → (k / line-width ≡ l → ⊥) → place-of (getD (with-line v l cs) k blank) ≡ place-of (getD cs k blank)
 line-apart v l cs k lt ne =
-    ap place-of (getD-each (λ j x. cond (eqb (j / 64) l) (posting v x) x) cs k lt ∙ cond-false _ _ _ (ne-eqb (k / 64) l ne))
+    ap place-of (getD-each (λ j x. cond (eqb (j / line-width) l) (posting v x) x) cs k lt ∙ cond-false _ _ _ (ne-eqb (k / line-width) l ne))
 
 length-line : (v : Bool) (l : ℕ) (cs : List Cell) → length (with-line v l cs) ≡ length cs
-length-line v l cs = length-each (λ j x. cond (eqb (j / 64) l) (posting v x) x) 0 cs
+length-line v l cs = length-each (λ j x. cond (eqb (j / line-width) l) (posting v x) x) 0 cs
 
 -- the calls
 pub stored-may : (p b : ℕ) (cs : List Cell) → p < length cs → Table-after (store p b) cs (stored-table p b cs)
 stored-may p b cs lt =
-    let line = with-line false (p / 64) cs in
+    let line = with-line false (p / line-width) cs in
     let c = getD cs p blank in
     let other : (k : ℕ) → k ≢ p → place-of (getD (stored-table p b cs) k blank) ≡ place-of (getD line k blank) =
     λ k ne. ap place-of (getD-set-other line p k (after-store b c) blank ne) in
     let here : place-of (getD (stored-table p b cs) p blank) ≡ place-of (after-store b c) =
-    ap place-of (getD-set-same line p (after-store b c) blank (subst (λ n. p < n) (sym (length-line false (p / 64) cs)) lt)) in
+    ap place-of (getD-set-same line p (after-store b c) blank (subst (λ n. p < n) (sym (length-line false (p / line-width) cs)) lt)) in
     record {
-      size = length-set line p (after-store b c) ∙ length-line false (p / 64) cs;
+      size = length-set line p (after-store b c) ∙ length-line false (p / line-width) cs;
       places = λ k h.
           record {
             here = λ e. subst (λ j. Stored b (place-of (getD cs j blank)) (place-of (getD (stored-table p b cs) j blank))) (sym e)
                 (subst (λ y. Stored b (place-of c) y) (sym here) (storing (c .stores) (c .present) (c .settled) b (c .posted)));
-            beside = λ ne e. inl (other k ne ∙ line-inside false (p / 64) cs k h e);
-            apart = λ ne. inl (other k (λ e. ne (ap (λ j. j / 64) e)) ∙ line-apart false (p / 64) cs k h ne);
+            beside = λ ne e. inl (other k ne ∙ line-inside false (p / line-width) cs k h e);
+            apart = λ ne. inl (other k (λ e. ne (ap (λ j. j / line-width) e)) ∙ line-apart false (p / line-width) cs k h ne);
           };
     }
 

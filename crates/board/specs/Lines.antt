@@ -56,10 +56,6 @@ settled-table cs = map after-settle cs
 abbrev pub cut-table : List ℕ → List Cell → List Cell
 cut-table ws cs = each (λ k c. after-cut (wanted-at ws k) c) 0 cs
 
--- a cell that a power cut leaves at place k, and that it is one that a board may leave
-abbrev pub Cut-by : List ℕ → ℕ → Cell → Cell → Type 0
-Cut-by ws k x y = (y ≡ after-cut (wanted-at ws k) x) × After-cut (place-of x) (place-of y)
-
 -- a table that a granted call of any board may make of xs
 pub record Table-after (w : Write) (xs ys : List Cell) : Type 0 where
   pub size : length ys ≡ length xs

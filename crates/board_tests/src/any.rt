@@ -9,7 +9,7 @@ use model::faults::LayerPartialEq;
 use std::test::*;
 
 // The largest place and line.
-pub const MOST: u64 = u64::MAX;
+pub(crate) const MOST: u64 = u64::MAX;
 
 fn told(fault: BoardFault) -> (u64, u64) {
     (u64::from(fault.number()), fault.detail())
@@ -22,31 +22,31 @@ fn wrote(answer: Result<(), BoardFault>) -> (u64, u64) {
     }
 }
 
-pub fn read<B: Board>(board: &B, place: usize) -> (u64, u64) {
+pub(crate) fn read<B: Board>(board: &B, place: usize) -> (u64, u64) {
     match board.read(place) {
         Ok(byte) => (0, u64::from(byte)),
         Err(fault) => told(fault),
     }
 }
 
-pub fn store<B: Board>(board: &mut B, place: usize, byte: u8) -> (u64, u64) {
+pub(crate) fn store<B: Board>(board: &mut B, place: usize, byte: u8) -> (u64, u64) {
     wrote(board.store(place, byte))
 }
 
-pub fn settle<B: Board>(board: &mut B) -> (u64, u64) {
+pub(crate) fn settle<B: Board>(board: &mut B) -> (u64, u64) {
     let slip = Slip::take();
     wrote(board.settle(slip))
 }
 
 // What a post answers, and then a settle.
-pub fn post_and_settle<B: Board>(board: &mut B, line: usize) -> [(u64, u64); 2] {
+pub(crate) fn post_and_settle<B: Board>(board: &mut B, line: usize) -> [(u64, u64); 2] {
     let slip = Slip::take();
     let posted = board.post(line, &slip);
     [wrote(posted), wrote(board.settle(slip))]
 }
 
 // A post, a store behind it, and then the settle.
-pub fn post_store_settle<B: Board>(
+pub(crate) fn post_store_settle<B: Board>(
     board: &mut B,
     line: usize,
     place: usize,
@@ -71,7 +71,7 @@ fn round<B: Board>(board: &mut B, at: usize, bytes: &[u8]) -> (u64, u64, u64) {
 }
 
 // The last place and line are on the board; the next, and the largest number, are not.
-pub fn ends<B: Board>(board: &mut B, size: usize, lines: usize) -> Result<(), Fail> {
+pub(crate) fn ends<B: Board>(board: &mut B, size: usize, lines: usize) -> Result<(), Fail> {
     let last = size.saturating_sub(1);
     let n = size as u64;
     check_eq(board.size(), size)?;
@@ -100,7 +100,7 @@ pub fn ends<B: Board>(board: &mut B, size: usize, lines: usize) -> Result<(), Fa
 }
 
 // A board of no places refuses each place and line.
-pub fn no_places<B: Board>(board: &mut B) -> Result<(), Fail> {
+pub(crate) fn no_places<B: Board>(board: &mut B) -> Result<(), Fail> {
     check_eq(
         [read(board, 0), store(board, 0, 1), settle(board)],
         [(2, 0), (2, 0), (0, 0)],
@@ -109,7 +109,7 @@ pub fn no_places<B: Board>(board: &mut B) -> Result<(), Fail> {
 }
 
 // A supply of 0 refuses each writing call, after the check of its place; one of 1 carries one.
-pub fn supplies<B: Board>(board: &mut B, size: usize) -> Result<(), Fail> {
+pub(crate) fn supplies<B: Board>(board: &mut B, size: usize) -> Result<(), Fail> {
     let n = size as u64;
     board.cut(&[], Some(0));
     check_eq(
@@ -124,7 +124,7 @@ pub fn supplies<B: Board>(board: &mut B, size: usize) -> Result<(), Fail> {
 }
 
 // A round up to the last place, past it, of no bytes, and with too little power.
-pub fn rounds<B: Board>(board: &mut B, size: usize, calls: u64) -> Result<(), Fail> {
+pub(crate) fn rounds<B: Board>(board: &mut B, size: usize, calls: u64) -> Result<(), Fail> {
     let at = size.saturating_sub(3);
     let n = size as u64;
     check_eq(

@@ -1,8 +1,7 @@
 use borrow.Author.Needs.{needs}
 use native.Mathlib.Omega.{arith}
 use Rattle.board.specs.Cells.{after-cut, wanted-at}
-use Rattle.board.specs.Lines.{Cut-by}
-use Rattle.board.proofs.Sweeps.{swept-none, swept-more, swept-all}
+use Rattle.board.proofs.Sweeps.{Cut-by, swept-none, swept-more, swept-all}
 use Rattle.board.proofs.line.cut_cells.Needs as need
 
 pub loop-i-holds : need.loop-i-holds

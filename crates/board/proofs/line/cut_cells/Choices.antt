@@ -1,5 +1,4 @@
-use Rattle.board.specs.Lines.{Cut-by}
-use Rattle.board.proofs.Sweeps.{Swept}
+use Rattle.board.proofs.Sweeps.{Swept, Cut-by}
 use Rattle.board.proofs.line.cut_cells.Given as given
 
 abbrev pub Inv-loop-i : given.InvT-loop-i
