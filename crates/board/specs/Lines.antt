@@ -6,7 +6,6 @@ use Prim.Native.Nat.{ℕ, suc, _/_, _<_}
 use denote.Ref.{now}
 use lib.Dec.{eqb}
 use lib.ListN.{length, getD, set}
-use Rattle.std.specs.declared.option.Option.{Option}
 use Rattle.std.specs.declared.result.Result.{Result}
 use Rattle.std.specs.Results.{isOk}
 use Rattle.model.specs.declared.faults.BoardFault.{BoardFault}
@@ -20,11 +19,9 @@ use Rattle.board.specs.Cells.{place-of, settled-at, blank, posting, after-stor
 abbrev pub line-width : ℕ
 line-width = 64
 
-abbrev pub line-meaning : List Cell → Option ℕ → Meaning
-line-meaning cs s = record { size = length cs; at = λ k. place-of (getD cs k blank); supply = s }
-
+-- what a line board means
 abbrev pub line-board : LineBoard → Meaning
-line-board b = line-meaning (now (b .cells)) (b .supply)
+line-board b = record { size = length (now (b .cells)); at = λ k. place-of (getD (now (b .cells)) k blank); supply = b .supply }
 
 -- the board's table after a call: f of the table before if it was granted, else that table
 abbrev pub Leaves : Result (Unit {0}) BoardFault → (List Cell → List Cell) → LineBoard → LineBoard → Type 0

@@ -5,7 +5,6 @@ use mathlib.Core.List.{List}
 use Prim.Native.Nat.{ℕ}
 use denote.Ref.{now}
 use lib.ListN.{length, getD, set}
-use Rattle.std.specs.declared.option.Option.{Option}
 use Rattle.std.specs.declared.result.Result.{Result}
 use Rattle.std.specs.Results.{isOk}
 use Rattle.model.specs.declared.faults.BoardFault.{BoardFault}
@@ -17,11 +16,9 @@ use Rattle.board.specs.declared.through.ThroughBoard.{ThroughBoard}
 abbrev pub through-width : ℕ
 through-width = 1
 
-abbrev pub through-meaning : List ℕ → Option ℕ → Meaning
-through-meaning bs s = record { size = length bs; at = λ k. settled (getD bs k 0); supply = s }
-
+-- what a through board means
 abbrev pub through-board : ThroughBoard → Meaning
-through-board b = through-meaning (now (b .bytes)) (b .supply)
+through-board b = record { size = length (now (b .bytes)); at = λ k. settled (getD (now (b .bytes)) k 0); supply = b .supply }
 
 -- the board's bytes after a call: f of the bytes before if it was granted, else those
 abbrev pub Leaves : Result (Unit {0}) BoardFault → (List ℕ → List ℕ) → ThroughBoard → ThroughBoard → Type 0

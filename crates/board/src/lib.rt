@@ -1,6 +1,6 @@
 // A memory board that may lose power between any two calls.
 ghost use mathlib.Core.Path.{_≡_};
-ghost use Prim.Native.Nat.{ℕ, _<_, _≤_};
+ghost use Prim.Native.Nat.{ℕ, _≤_};
 ghost use Rattle.model.specs.Writes.{Meaning, store, post, settle, Cut};
 ghost use Rattle.model.specs.Calls.{Wrote, Answered};
 

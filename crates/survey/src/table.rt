@@ -4,7 +4,9 @@ ghost use mathlib.Core.Logic.{_⊎_};
 ghost use mathlib.Core.Bool.{true, false};
 ghost use Prim.Native.Nat.{ℕ, _+_, _<_};
 ghost use denote.Ref.{now};
+ghost use lib.Chars.{codes};
 ghost use lib.ListN.{getD};
+ghost use Rattle.std.specs.Text.{Utf8};
 ghost use Rattle.model.specs.Writes.{loose-at};
 ghost use Rattle.survey.specs.Record.{record-at, record-size, old-record, new-record, Sure, mark};
 use crate::record::AT;
@@ -73,7 +75,11 @@ fn may_tear(low: &[u8; LEN], high: &[u8; LEN]) -> bool
     !is_sure(low, high, &OLD) && !is_sure(low, high, &NEW)
 }
 
-fn text(bytes: &[u8]) -> &str {
+// The bytes as text, if they are.
+fn text(bytes: &[u8]) -> &str
+    ensures text { λ r. ⌜ (Utf8 (now (bytes .entry)) → now r ≡ now (bytes .entry)) ⌝ }
+    ensures other { λ r. ⌜ ((Utf8 (now (bytes .entry)) → ⊥) → now r ≡ codes "?") ⌝ }
+{
     match std::str::from_utf8(bytes) {
         Ok(text) => text,
         Err(_) => "?",
