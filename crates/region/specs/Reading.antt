@@ -1,0 +1,103 @@
+-- What a region's bytes say: its frames, or why it is refused.
+use mathlib.Core.Path.{_≡_}
+use mathlib.Core.Bool.{Bool, cond, _&&_}
+use mathlib.Core.List.{List, [], _∷_}
+use Prim.Native.Nat.{ℕ, zero, suc, _+_, _%_}
+use lib.Dec.{eqb, ltb, leb}
+use lib.ListN.{length, getD}
+use Rattle.std.specs.declared.option.Option.{Option}
+use Rattle.std.specs.declared.option.Option.the-variants.{Some, None}
+use Rattle.std.specs.declared.result.Result.{Result}
+use Rattle.std.specs.declared.result.Result.the-variants.{Ok, Err}
+use Rattle.model.specs.declared.faults.StackFault.{StackFault}
+use Rattle.model.specs.declared.faults.StackFault.the-variants.{BoardSize, Version, StoredSize, Damaged}
+use Rattle.plain.specs.declared.Answer.{Answer}
+use Rattle.plain.specs.declared.Progress.{Progress}
+use Rattle.region.specs.declared.layout.Pad.{Pad}
+use Rattle.region.specs.declared.layout.Pad.the-variants.{Zero, One}
+use Rattle.region.specs.Numbers.{number, part}
+use Rattle.region.specs.Layout.{least-size, greatest-size, max-frames, version, version-at, size-at, size-size, frames-at, with-answer, answer-size, progress-size, answer-place, progress-place, count-size, kind-size, kind-place, args-place, pad-place, marker-place, frame-size, markers}
+use Rattle.region.specs.Frames.{Located, kind-rule, Region-laid, Stands}
+
+-- what stands in the frame that starts at place p
+abbrev pub count-at : List ℕ → ℕ → ℕ
+count-at bs p = number (part bs p count-size)
+
+abbrev pub kind-at : List ℕ → ℕ → ℕ
+kind-at bs p = number (part bs (kind-place p) kind-size)
+
+abbrev pub marker-at : List ℕ → ℕ → ℕ
+marker-at bs p = getD bs (marker-place p (count-at bs p)) 0
+
+-- bit 0 of a marker
+abbrev pub is-last : ℕ → Bool
+is-last marker = eqb (marker % 2) 1
+
+-- bit 1 of a marker
+abbrev pub live-pad : ℕ → Pad
+live-pad marker = cond (ltb marker 2) Zero One
+
+abbrev pub live-at : List ℕ → ℕ → ℕ
+live-at bs p = pad-place p (count-at bs p) (live-pad (marker-at bs p))
+
+-- what stands in the pad at place q
+abbrev pub tag-at : List ℕ → ℕ → ℕ
+tag-at bs q = getD bs q 0
+
+abbrev pub answer-at : List ℕ → ℕ → Option Answer
+answer-at bs q = cond (eqb (tag-at bs q) with-answer) (Some (record { value = number (part bs (answer-place q) answer-size) })) None
+
+abbrev pub progress-at : List ℕ → ℕ → Progress
+progress-at bs q = record { value = number (part bs (progress-place q) progress-size) }
+
+-- whether the frame at place p, with i frames below it, is undamaged: it is not one too many, ends at reach at the latest,
+-- keeps the rule for kind and number of arguments, and has a marker and a live tag that there are
+abbrev pub undamaged : ℕ → List ℕ → ℕ → ℕ → Bool
+undamaged reach bs i p =
+    ltb i max-frames && (leb (p + frame-size (count-at bs p)) reach && (kind-rule i (kind-at bs p) (count-at bs p)
+    && (ltb (marker-at bs p) markers && leb (tag-at bs (live-at bs p)) with-answer)))
+
+-- the undamaged frame at place p
+abbrev pub frame-at : List ℕ → ℕ → Located
+frame-at bs p =
+    record {
+      first = p;
+      live = live-pad (marker-at bs p);
+      frame =
+          record {
+            kind = kind-at bs p;
+            args = part bs (args-place p) (count-at bs p);
+            progress = progress-at bs (live-at bs p);
+            answer = answer-at bs (live-at bs p);
+          };
+    }
+
+abbrev pub before : Located → Result (List Located) StackFault → Result (List Located) StackFault
+before x (Ok xs) = Ok (x ∷ xs)
+before x (Err e) = Err e
+
+-- the frames from place p on, of which k may stand at most, above i others, up to the first whose marker ends the stack
+abbrev pub frames-from : ℕ → ℕ → List ℕ → ℕ → ℕ → Result (List Located) StackFault
+frames-from zero reach bs i p = Err (Damaged p)
+frames-from (suc k) reach bs i p =
+    cond (undamaged reach bs i p)
+    (cond (is-last (marker-at bs p)) (Ok (frame-at bs p ∷ [])) (before (frame-at bs p) (frames-from k reach bs (suc i) (p + frame-size (count-at bs p)))))
+    (Err (Damaged p))
+
+-- the frames of a region, or 8, 9, 10 or 11, tested in this order
+abbrev pub read : List ℕ → Result (List Located) StackFault
+read bs =
+    cond (leb least-size (length bs) && leb (length bs) greatest-size)
+    (cond (eqb (getD bs version-at 0) version)
+    (cond (eqb (number (part bs size-at size-size)) (length bs)) (frames-from max-frames (length bs) bs 0 frames-at) (Err StoredSize))
+    (Err Version))
+    (Err BoardSize)
+
+-- the bytes hold b at place q
+abbrev pub Found : List ℕ → ℕ → ℕ → Type 0
+Found bs q b = getD bs q 0 ≡ b
+
+-- the bytes are a region with these frames: each place that counts holds its byte
+pub record Spells (bs : List ℕ) (fs : List Located) : Type 0 where
+  pub stands : Stands (length bs) fs
+  pub laid : Region-laid (Found bs) (length bs) fs
