@@ -52,7 +52,7 @@ module _ {P Q R : ℕ → ℕ → Type 0} (f : (q b : ℕ) → P q b → Q q b �
 pub laid-within : (P : ℕ → Type 0) (p k v : ℕ) → ((q : ℕ) → p ≤ q → q < p + k → P q) → Laid (λ q b. P q) p (spelled k v)
 laid-within P p k v h i lt = h (p + i) (omega arith) (omega (arith, lt, length-spelled k v))
 
-pad-within : (P : ℕ → Type 0) (q : ℕ) (a : Option Answer) (v : Progress) → ((r : ℕ) → q ≤ r → r < q + pad-size → P r) → Pad-laid (λ r b. P r) q a v
+pub pad-within : (P : ℕ → Type 0) (q : ℕ) (a : Option Answer) (v : Progress) → ((r : ℕ) → q ≤ r → r < q + pad-size → P r) → Pad-laid (λ r b. P r) q a v
 pad-within P q None v h =
     (h q (omega arith) (omega arith), laid-within P (progress-place q) progress-size (v .value) (λ r l u. h r (omega arith) (omega arith)))
 pad-within P q (Some a) v h = (
@@ -77,11 +77,11 @@ frame-within P x last head pad marker =
     }
 
 -- both pads lie between the arguments and the marker
-pad-low : (p n : ℕ) (d : Pad) → args-place p + n ≤ pad-place p n d
+pub pad-low : (p n : ℕ) (d : Pad) → args-place p + n ≤ pad-place p n d
 pad-low p n Zero = omega arith
 pad-low p n One = omega arith
 
-pad-high : (p n : ℕ) (d : Pad) → pad-place p n d + pad-size ≤ marker-place p n
+pub pad-high : (p n : ℕ) (d : Pad) → pad-place p n d + pad-size ≤ marker-place p n
 pad-high p n Zero = omega arith
 pad-high p n One = omega arith
 

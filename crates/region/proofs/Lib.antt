@@ -1,3 +1,5 @@
 pub mod Numbers
 pub mod Frames
 pub mod Reading
+pub mod Writing
+pub mod Plans
