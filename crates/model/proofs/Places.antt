@@ -13,7 +13,7 @@ use Rattle.std.specs.declared.option.Option.{Option}
 use Rattle.std.specs.declared.option.Option.the-variants.{Some, None}
 use Rattle.model.specs.Places.{Place, settled, loose, present, marked, Kept, Stored, After-settle, After-cut}
 use Rattle.model.specs.Writes.{Meaning, bytes, Write, store, post, settle, After, Granted, Cut, Spares, Spares-line, rewritten}
-use Rattle.model.specs.Laws.{Settled-stays, Settled-survives, Bytes-follow}
+use Rattle.model.specs.Laws.{Cut-supplies, Settled-stays, Settled-survives, Bytes-follow}
 
 -- what no granted call takes from a place, unless it stores there
 abbrev pub Steady : (Place → Type 0) → Type 0
@@ -150,11 +150,14 @@ cut-either q a b m n s lt h c = either-after-cut a b (m .at q) (n .at q) h (c .p
 pub settled-stays : Settled-stays
 settled-stays L q a w m n g lt sp e = holds (Rests a) (rests-steady a) L q w m n g lt sp e
 
+pub cut-supplies : Cut-supplies
+cut-supplies m n s c = (c .size, c .supply)
+
 pub settled-survives : Settled-survives
 settled-survives q a m n s lt e c = subst (λ x. After-cut x (n .at q)) e (c .places q lt)
 
 -- the present bytes, place by place
-byte-at : (m : Meaning) (k : ℕ) → k < m .size → getD (bytes m) k 0 ≡ present (m .at k)
+pub byte-at : (m : Meaning) (k : ℕ) → k < m .size → getD (bytes m) k 0 ≡ present (m .at k)
 byte-at m k lt = getD-map-counting (λ j. present (m .at j)) 0 (m .size) k k 0 lt (omega arith)
 
 pub length-bytes : (m : Meaning) → length (bytes m) ≡ m .size

@@ -38,6 +38,10 @@ abbrev pub Settled-survives : Type 0
 Settled-survives =
     (q a : ℕ) (m n : Meaning) (s : Option ℕ) → q < m .size → m .at q ≡ settled a → Cut s m n → n .at q ≡ settled a
 
+-- A power cut keeps the number of places, and the power carries its new supply.
+abbrev pub Cut-supplies : Type 0
+Cut-supplies = (m n : Meaning) (s : Option ℕ) → Cut s m n → (n .size ≡ m .size) × (n .supply ≡ s)
+
 -- Present bytes change only where a store says so.
 abbrev pub Bytes-follow : Type 0
 Bytes-follow = (L : ℕ) (w : Write) (m n : Meaning) → Granted L w m n → bytes n ≡ rewritten w (bytes m)
@@ -95,6 +99,7 @@ pub record Board-laws : Type 0 where
   pub stored-lasts : Stored-lasts
   pub cut-old-or-new : Cut-old-or-new
   pub settled-survives : Settled-survives
+  pub cut-supplies : Cut-supplies
   pub bytes-follow : Bytes-follow
   pub ran-spends : Ran-spends
   pub round-posts : Round-posts

@@ -22,7 +22,7 @@ use Rattle.region.specs.Writing.{pad-bytes, frame-bytes}
 use Rattle.region.specs.Plans.{Plan, turn, turned, above, push, at-top, plan, extended, after, stack-end, May-call, Allowed}
 use Rattle.region.proofs.Numbers.{length-spelled}
 use Rattle.region.proofs.Frames.{laid-zip, pad-zip, frame-zip, frames-zip, pad-within, laid-within, pad-low, pad-high, frame-inside, frame-idle, frames-inside}
-use Rattle.region.proofs.Writing.{length-pad, pad-written, frame-written}
+use Rattle.region.proofs.Writing.{length-pad, length-frame, pad-written, frame-written}
 
 -- frames fs from place p on, above i others, become gs by this plan
 pub record Local (reach i p : ℕ) (fs gs : List Located) (pl : Plan) : Type 1 where
@@ -38,6 +38,7 @@ pub record Local (reach i p : ℕ) (fs gs : List Located) (pl : Plan) : Type 1 w
   -- it stores at no place before p
   pub low : p ≤ pl .at
   pub mark-low : p ≤ pl .mark
+  pub room : pl .at + length (pl .bytes) ≤ reach
   pub tops : is-top fs ≡ is-top gs
 
 deeper : (reach i p : ℕ) (x : Located) (fs gs : List Located) (pl : Plan) → Well-placed reach i p x → Local reach (suc i) (p + frame-size (count x)) fs gs pl → Local reach i p (x ∷ fs) (x ∷ gs) pl
@@ -55,6 +56,7 @@ deeper reach i p x fs gs pl w l =
       row = (w, l .row);
       low = omega (arith, l .low);
       mark-low = omega (arith, l .mark-low);
+      room = l .room;
       tops = refl;
     }
 
@@ -104,6 +106,7 @@ turn-local reach i p a v x ts fits lt s =
         );
       low = omega (arith, s .0 .first, pad-low f n d);
       mark-low = omega (arith, s .0 .first);
+      room = omega (arith, s .0 .first, s .0 .ends, pad-high f n d, length-pad a v);
       tops = refl;
     }
 
@@ -149,6 +152,7 @@ push-local reach i p kind args x some fits few bytes room w =
         );
       low = omega (arith, w .first);
       mark-low = omega (arith, w .first);
+      room = omega (arith, room, length-frame (above kind args x) true);
       tops = refl;
     }
 

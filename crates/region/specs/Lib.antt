@@ -4,4 +4,5 @@ pub mod Frames
 pub mod Reading
 pub mod Writing
 pub mod Plans
+pub mod Cuts
 pub mod Laws

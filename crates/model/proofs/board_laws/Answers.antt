@@ -1,4 +1,4 @@
-use Rattle.model.proofs.Places.{settled-stays, settled-survives, bytes-follow}
+use Rattle.model.proofs.Places.{settled-stays, settled-survives, cut-supplies, bytes-follow}
 use Rattle.model.proofs.Lists.{stored-lasts, cut-old-or-new, ran-spends}
 use Rattle.model.proofs.Rounds.{round-posts, round-outside, round-old-or-new, round-lasts, round-bytes}
 use Rattle.model.proofs.board_laws.Needs as need
@@ -10,6 +10,7 @@ returns c =
       stored-lasts = stored-lasts;
       cut-old-or-new = cut-old-or-new;
       settled-survives = settled-survives;
+      cut-supplies = cut-supplies;
       bytes-follow = bytes-follow;
       ran-spends = ran-spends;
       round-posts = round-posts;
