@@ -153,15 +153,13 @@ take-past (u ∷ us) vs k =
     ap (λ j. take j (u ∷ (us ++ vs))) e ∙ ap (λ ws. u ∷ ws) (take-past us vs k)
 
 -- a list of two parts, cut off in the first or in the second
-pub ran-parts : (L k : ℕ) (us vs : List Write) (m o : Meaning) → Ran L (take k (us ++ vs)) m o
-  → ((k ≤ length us) × Ran L (take k us) m o) ⊎ ((j : ℕ) × (k ≡ length us + j) × ((n : Meaning) × Ran L us m n × Ran L (take j vs) n o))
-ran-parts L k us vs m o r =
-    ⊎-elim
-    (λ lt. let le : k ≤ length us = omega arith in inl (le, subst (λ ws. Ran L ws m o) (take-append-le k us vs le) r))
-    (λ le. let j : ℕ = k - length us in
-    let e : k ≡ length us + j = omega arith in
-    inr (j, e, ran-split L us (take j vs) m o (subst (λ ws. Ran L ws m o) (ap (λ i. take i (us ++ vs)) e ∙ take-past us vs j) r)))
-    (cases-lt k (length us))
+pub ran-first : (L k : ℕ) (us vs : List Write) (m o : Meaning) → k ≤ length us → Ran L (take k (us ++ vs)) m o → Ran L (take k us) m o
+ran-first L k us vs m o le r = subst (λ ws. Ran L ws m o) (take-append-le k us vs le) r
+
+pub ran-second : (L k : ℕ) (us vs : List Write) (m o : Meaning) → length us ≤ k → Ran L (take k (us ++ vs)) m o → (n : Meaning) × Ran L us m n × Ran L (take (k - length us) vs) n o
+ran-second L k us vs m o le r =
+    let e : k ≡ length us + (k - length us) = omega arith in
+    ran-split L us (take (k - length us) vs) m o (subst (λ ws. Ran L ws m o) (ap (λ i. take i (us ++ vs)) e ∙ take-past us vs (k - length us)) r)
 
 pub broken-then : (L : ℕ) (us vs : List Write) (k : ℕ) (m n o : Meaning) → Ran L us m n → Broken L vs n k o → Broken L (us ++ vs) m (length us + k) o
 broken-then L us vs k m n o r b =

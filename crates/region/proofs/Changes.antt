@@ -2,10 +2,10 @@
 use mathlib.Core.Path.{_≡_, refl, sym, ap, subst, _∙_}
 use mathlib.Core.Logic.{_⊎_, inl, inr, ⊎-elim}
 use mathlib.Core.List.{List, [], _∷_, _++_}
-use Prim.Native.Nat.{ℕ, zero, suc, _+_, _<_, _≤_}
+use Prim.Native.Nat.{ℕ, zero, suc, _+_, _-_, _<_, _≤_}
 use native.Mathlib.Omega.{arith}
 use lib.ListN.{length, take, getD}
-use Rattle.std.proofs.shelf.Tests.{cases-eq}
+use Rattle.std.proofs.shelf.Tests.{cases-eq, cases-lt}
 use Rattle.std.proofs.shelf.Lists.{take-all}
 use Rattle.std.specs.declared.option.Option.{Option}
 use Rattle.std.specs.declared.option.Option.the-variants.{None}
@@ -14,7 +14,7 @@ use Rattle.model.specs.Writes.{Meaning, bytes, Write, Cut, Ran}
 use Rattle.model.specs.Rounds.{round}
 use Rattle.model.specs.Laws.{Outside}
 use Rattle.model.proofs.Places.{length-bytes, byte-at, cut-supplies}
-use Rattle.model.proofs.Lists.{ran-size, ran-parts, ran-split}
+use Rattle.model.proofs.Lists.{ran-size, ran-first, ran-second, ran-split}
 use Rattle.model.proofs.Rounds.{round-outside, round-old-or-new, round-lasts}
 use Rattle.plain.specs.Frames.{Change}
 use Rattle.region.specs.Layout.{size-at, size-size, frames-at}
@@ -45,7 +45,7 @@ settled-found m fs s =
 
 -- a plan and the whole region
 module _ (size : ℕ) (fs gs : List Located) (pl : Plan) (l : Local size 0 frames-at fs gs pl) where
-  region-idle : Region-laid (λ q b. Outside (pl .at) (length (pl .bytes)) q) size fs
+  pub region-idle : Region-laid (λ q b. Outside (pl .at) (length (pl .bytes)) q) size fs
   region-idle =
       record {
         version-byte = λ low high. omega (arith, l .low);
@@ -62,10 +62,10 @@ module _ (size : ℕ) (fs gs : List Located) (pl : Plan) (l : Local size 0 frame
       }
 
   -- the marker's place is none of round one
-  mark-apart : Outside (pl .at) (length (pl .bytes)) (pl .mark)
+  pub mark-apart : Outside (pl .at) (length (pl .bytes)) (pl .mark)
   mark-apart = l .marked (λ q b. Outside (pl .at) (length (pl .bytes)) q) (l .idle)
 
-same-byte : {a b : ℕ} → settled a ≡ settled b → a ≡ b
+pub same-byte : {a b : ℕ} → settled a ≡ settled b → a ≡ b
 same-byte e = cc
 
 module _ (L : ℕ) (c : Change) (fs : List Located) (m : Meaning) (some : 0 < L) (s : Settled m fs) (a : Allowed (m .size) c fs) where
@@ -195,9 +195,9 @@ module _ (L : ℕ) (c : Change) (fs : List Located) (m : Meaning) (some : 0 < L)
   pub cut-found : (k : ℕ) (n o : Meaning) (t : Option ℕ) → Ran L (take k (writes L pl)) m n → Cut t n o → ((Marked pl o → ⊥) × Finds o fs) ⊎ (Marked pl o × Finds o (after c fs))
   cut-found k n o t r cut =
       ⊎-elim
-      (λ x. inl (one-cut k n o t (x .1) cut))
-      (λ x. let y = x .2 in let b = between (y .0) (y .1) in two-cut (y .0) (b .0) (b .1) (b .2) (x .0) n o t (y .2) cut)
-      (ran-parts L k one two m n r)
+      (λ lt. inl (one-cut k n o t (ran-first L k one two m n (omega arith) r) cut))
+      (λ le. let y = ran-second L k one two m n le r in let b = between (y .0) (y .1) in two-cut (y .0) (b .0) (b .1) (b .2) (k - length one) n o t (y .2) cut)
+      (cases-lt k (length one))
 
   pub whole-found : (n : Meaning) → Ran L (writes L pl) m n → Finds n (after c fs)
   whole-found n r =

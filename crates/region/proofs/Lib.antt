@@ -4,3 +4,5 @@ pub mod Reading
 pub mod Writing
 pub mod Plans
 pub mod Changes
+pub mod Formats
+pub mod Effects

@@ -123,7 +123,7 @@ frames-found (suc k) reach bs i p (x ∷ y ∷ ys) some few all w h =
     subst (λ r. frames-from (suc k) reach bs i r ≡ Ok (x ∷ y ∷ ys)) (w .0 .first)
     (rw (found .sound, found .ends, found .same, rest))
 
-size-test : (n : ℕ) → least-size ≤ n → n ≤ greatest-size → (leb least-size n && leb n greatest-size) ≡ true
+pub size-test : (n : ℕ) → least-size ≤ n → n ≤ greatest-size → (leb least-size n && leb n greatest-size) ≡ true
 size-test n l u = and-from (leb least-size n) (leb n greatest-size) (le-leb least-size n l) (le-leb n greatest-size u)
 
 -- what the places that count spell is read

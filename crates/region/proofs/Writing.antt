@@ -36,6 +36,10 @@ laid-first P p b bs h = let e : p + 0 ≡ p = omega arith in subst (λ q. P q b)
 pub laid-rest : (P : ℕ → ℕ → Type 0) (p q b : ℕ) (bs : List ℕ) → q ≡ p + 1 → Laid P p (b ∷ bs) → Laid P q bs
 laid-rest P p q b bs e h i lt = let place : p + suc i ≡ q + i = omega (arith, e) in subst (λ r. P r (getD bs i 0)) place (h (suc i) (omega arith))
 
+pub laid-join : (P : ℕ → ℕ → Type 0) (p q b : ℕ) (bs : List ℕ) → q ≡ p + 1 → P p b → Laid P q bs → Laid P p (b ∷ bs)
+laid-join P p q b bs e g h zero lt = let place : p ≡ p + 0 = omega arith in subst (λ r. P r b) place g
+laid-join P p q b bs e g h (suc i) lt = let place : q + i ≡ p + suc i = omega (arith, e) in subst (λ r. P r (getD bs i 0)) place (h i (omega arith))
+
 pub length-pad : (a : Option Answer) (v : Progress) → length (pad-bytes a v) ≡ pad-size
 length-pad a v =
     omega (arith, length-append (spelled answer-size (answer-number a)) (spelled progress-size (v .value)), length-spelled answer-size (answer-number a), length-spelled progress-size (v .value))
