@@ -47,3 +47,7 @@ stack-detail BoardSize = 0
 stack-detail Version = 0
 stack-detail StoredSize = 0
 stack-detail (Damaged first) = first
+
+-- the stack's refusal with this number, layer and detail
+abbrev pub Refusal : ℕ → Layer → ℕ → StackFault → Type 0
+Refusal n l d e = (stack-number e ≡ n) × (stack-layer e ≡ l) × (stack-detail e ≡ d)

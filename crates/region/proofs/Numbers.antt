@@ -5,6 +5,7 @@ use Prim.Native.Nat.{ℕ, zero, suc, _+_, _*_, _/_, _%_, _^_, _<_, _≤_}
 use native.Mathlib.Omega.{arith}
 use native.Mathlib.Nat.{pow-zero, pow-suc, mul-comm, mul-assoc, add-mul, mod-lt, div-add-mod', div-eq-of-lt, div-div-eq-div-mul, mul-add-div-right, mul-le-mul-right}
 use lib.ListN.{length, getD}
+use Rattle.std.proofs.shelf.Lists.{ext-getD}
 use Rattle.region.specs.Numbers.{number, spelled, part, Bytes}
 
 pub length-spelled : (k v : ℕ) → length (spelled k v) ≡ k
@@ -82,3 +83,8 @@ bytes-getD (b ∷ bs) (suc i) h = bytes-getD bs i (h .1)
 pub bytes-part : (bs : List ℕ) (p k : ℕ) → Bytes bs → Bytes (part bs p k)
 bytes-part bs p zero h = tt
 bytes-part bs p (suc k) h = (bytes-getD bs p h, bytes-part bs (suc p) k h)
+
+-- a list of the k bytes from p on
+pub part-by : (bs cs : List ℕ) (p k : ℕ) → length cs ≡ k → ((i : ℕ) → i < k → getD cs i 0 ≡ getD bs (p + i) 0) → cs ≡ part bs p k
+part-by bs cs p k l h =
+    ext-getD 0 cs (part bs p k) (l ∙ sym (length-part bs p k)) (λ i lt. let lt2 : i < k = omega (arith, lt, l) in h i lt2 ∙ sym (getD-part bs p k i lt2))

@@ -225,9 +225,9 @@ not-both q = let z : _≡_ {A = ℕ} 0 1 = cc in omega arith
 ok-same : {fs gs : List Located} → _≡_ {A = Result (List Located) StackFault} (Ok gs) (Ok fs) → gs ≡ fs
 ok-same q = cc
 
-behind : (x : Located) (r : Result (List Located) StackFault) (fs : List Located) → before x r ≡ Ok fs → (gs : List Located) × (r ≡ Ok gs) × (x ∷ gs ≡ fs)
-behind x (Ok gs) fs q = (gs, refl, ok-same q)
-behind x (Err e) fs q = absurd (not-both q)
+next-of : (x : Located) (r : Result (List Located) StackFault) (fs : List Located) → before x r ≡ Ok fs → (gs : List Located) × (r ≡ Ok gs) × (x ∷ gs ≡ fs)
+next-of x (Ok gs) fs q = (gs, refl, ok-same q)
+next-of x (Err e) fs q = absurd (not-both q)
 
 pub frames-read : (k reach : ℕ) (bs : List ℕ) (i p : ℕ) (fs : List Located) → Bytes bs → frames-from k reach bs i p ≡ Ok fs → Row-read k reach bs i p fs
 frames-read zero reach bs i p fs h q = absurd (not-both q)
@@ -235,7 +235,7 @@ frames-read (suc k) reach bs i p fs h q =
     ⊎-elim
     (λ e. ⊎-elim
     (λ l. subst (Row-read (suc k) reach bs i p) (ok-same (sym (as-last e l) ∙ q)) (row-one k reach bs i p h e l))
-    (λ l. let more = behind (frame-at bs p) _ fs (sym (as-more e l) ∙ q) in
+    (λ l. let more = next-of (frame-at bs p) _ fs (sym (as-more e l) ∙ q) in
     subst (Row-read (suc k) reach bs i p) (more .2)
     (row-more k reach bs i p (more .0) h e l (frames-read k reach bs (suc i) (p + frame-size (count-at bs p)) (more .0) h (more .1))))
     (cases-bool (is-last (marker-at bs p))))

@@ -2,7 +2,9 @@ pub mod Numbers
 pub mod Layout
 pub mod Frames
 pub mod Reading
+pub mod Markers
 pub mod Writing
 pub mod Plans
 pub mod Cuts
+pub mod Answers
 pub mod Laws

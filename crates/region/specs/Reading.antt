@@ -84,14 +84,22 @@ frames-from (suc k) reach bs i p =
     (cond (is-last (marker-at bs p)) (Ok (frame-at bs p ∷ [])) (before (frame-at bs p) (frames-from k reach bs (suc i) (p + frame-size (count-at bs p)))))
     (Err (Damaged p))
 
--- the frames of a region, or 8, 9, 10 or 11, tested in this order
-abbrev pub read : List ℕ → Result (List Located) StackFault
-read bs =
+-- the header: 8, 9 and 10, tested in this order
+abbrev pub header : List ℕ → Result (Unit {0}) StackFault
+header bs =
     cond (leb least-size (length bs) && leb (length bs) greatest-size)
     (cond (eqb (getD bs version-at 0) version)
-    (cond (eqb (number (part bs size-at size-size)) (length bs)) (frames-from max-frames (length bs) bs 0 frames-at) (Err StoredSize))
+    (cond (eqb (number (part bs size-at size-size)) (length bs)) (Ok tt) (Err StoredSize))
     (Err Version))
     (Err BoardSize)
+
+abbrev pub behind : Result (Unit {0}) StackFault → Result (List Located) StackFault → Result (List Located) StackFault
+behind (Ok u) r = r
+behind (Err e) r = Err e
+
+-- the frames of a region, or the refusal of its header or of a frame
+abbrev pub read : List ℕ → Result (List Located) StackFault
+read bs = behind (header bs) (frames-from max-frames (length bs) bs 0 frames-at)
 
 -- the bytes hold b at place q
 abbrev pub Found : List ℕ → ℕ → ℕ → Type 0

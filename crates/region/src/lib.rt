@@ -1,6 +1,7 @@
 // The bytes of a region.
 ghost use Rattle.region.specs.Laws.{Region-laws};
 pub mod layout;
+pub mod read;
 
 pub fn region_laws()
     ensures { λ _. ⌜ Region-laws ⌝ }

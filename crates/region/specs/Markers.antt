@@ -1,0 +1,12 @@
+-- The marker that a byte is.
+use mathlib.Core.Bool.{cond}
+use Prim.Native.Nat.{ℕ}
+use lib.Dec.{ltb}
+use Rattle.std.specs.declared.option.Option.{Option}
+use Rattle.std.specs.declared.option.Option.the-variants.{Some, None}
+use Rattle.region.specs.declared.layout.Marker.{Marker}
+use Rattle.region.specs.Layout.{markers}
+use Rattle.region.specs.Reading.{is-last, live-pad}
+
+abbrev pub marker-of : ℕ → Option Marker
+marker-of b = cond (ltb b markers) (Some (record { live = live-pad b; last = is-last b })) None
