@@ -6,3 +6,4 @@ pub mod Plans
 pub mod Changes
 pub mod Formats
 pub mod Effects
+pub mod Heads

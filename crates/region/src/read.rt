@@ -1,12 +1,31 @@
 // Reading over any board.
 ghost use mathlib.Core.Path.{_≡_};
 ghost use Prim.Native.Nat.{_+_, _^_, _<_, _≤_};
+ghost use lib.Dec.{leb};
 ghost use lib.ListN.{length, getD};
 ghost use Rattle.model.specs.Writes.{bytes};
 ghost use Rattle.region.specs.Numbers.{number, part};
-ghost use Rattle.region.specs.Answers.{Bytes-read};
+ghost use Rattle.region.specs.Layout.{pad-size, frame-size};
+ghost use Rattle.region.specs.Frames.{kind-rule};
+ghost use Rattle.region.specs.Answers.{Bytes-read, pad-at, Head-read, Frame-read};
+use crate::frame::FrameHead;
+use crate::frame::pad_place;
+use crate::layout::ANSWER_SIZE;
+use crate::layout::ARGS_AT;
+use crate::layout::BARE_FRAME;
+use crate::layout::COUNT_SIZE;
+use crate::layout::MAX_ARGS;
+use crate::layout::MAX_FRAMES;
+use crate::layout::Marker;
+use crate::layout::NO_ANSWER;
+use crate::layout::PADS_SIZE;
+use crate::layout::TAG_SIZE;
+use crate::layout::WITH_ANSWER;
 use board::Board;
 use model::faults::BoardFault;
+use model::faults::StackFault;
+use plain::Answer;
+use plain::Progress;
 
 // The present byte; 0 past the board's end.
 fn byte_at<B: Board>(board: &B, place: usize) -> u8
@@ -68,4 +87,94 @@ pub fn read_bytes<B: Board>(board: &B, at: usize, into: &mut [u8]) -> Result<(),
     }
     fill(board, at, into);
     Ok(())
+}
+
+// What a pad holds.
+#[derive(Clone, Copy)]
+pub struct PadContent {
+    pub answer: Option<Answer>,
+    pub progress: Progress,
+}
+
+// The pad at a place; none if its tag is none that there is.
+fn read_pad<B: Board>(board: &B, at: usize) -> Option<PadContent>
+    requires { ⌜ at + pad-size < 2 ^ 64 ⌝ }
+    ensures { λ r. ⌜ r ≡ pad-at (bytes (meaning (now (board .entry)))) at ⌝ }
+{
+    let answer = match byte_at(board, at) {
+        NO_ANSWER => None,
+        WITH_ANSWER => Some(Answer {
+            value: read_u64(board, at + TAG_SIZE),
+        }),
+        _ => return None,
+    };
+    let progress = Progress {
+        value: read_u64(board, at + TAG_SIZE + ANSWER_SIZE),
+    };
+    Some(PadContent { answer, progress })
+}
+
+// Whether a frame with so many argument bytes ends on a board of that size.
+fn fits(size: usize, first: usize, count: usize) -> bool
+    requires { ⌜ count < 65536 ⌝ }
+    ensures { λ r. ⌜ r ≡ leb (first + frame-size count) size ⌝ }
+{
+    first <= size && BARE_FRAME + count <= size - first
+}
+
+// Whether a frame above so many others may have this kind and so many argument bytes.
+fn keeps_kind_rule(below: usize, kind: u16, count: usize) -> bool
+    ensures { λ r. ⌜ r ≡ kind-rule below kind count ⌝ }
+{
+    if below == 0 {
+        kind == 0 && count == 0
+    } else {
+        kind > 0 && count <= MAX_ARGS
+    }
+}
+
+// The frame that starts at a place, above so many others; none if it is damaged.
+fn head_at<B: Board>(board: &B, below: usize, first: usize) -> Option<FrameHead>
+    ensures { λ r. ⌜ Head-read (bytes (meaning (now (board .entry)))) below first r ⌝ }
+{
+    let size = board.size();
+    if below >= MAX_FRAMES {
+        return None;
+    }
+    if !fits(size, first, 0) {
+        return None;
+    }
+    let count = usize::from(read_u16(board, first));
+    let kind = read_u16(board, first + COUNT_SIZE);
+    if !fits(size, first, count) {
+        return None;
+    }
+    if !keeps_kind_rule(below, kind, count) {
+        return None;
+    }
+    let marker = Marker::of(byte_at(board, first + ARGS_AT + count + PADS_SIZE))?;
+    let pad = read_pad(board, pad_place(first, count, marker.live))?;
+    Some(FrameHead {
+        first,
+        kind,
+        count,
+        marker,
+        progress: pad.progress,
+        answer: pad.answer,
+    })
+}
+
+// Reads the frame that starts at place `first`, above `below` others, but for its argument bytes, which are the `count` bytes from
+// `args_place` on. A damaged one is refused with 11 and its first place; what passes the board's end is not read.
+pub fn read_frame<B: Board>(
+    board: &B,
+    below: usize,
+    first: usize,
+) -> Result<FrameHead, StackFault>
+    ensures { λ r. ⌜ Frame-read (bytes (meaning (now (board .entry)))) below first r ⌝ }
+{
+    match head_at(board, below, first) {
+        Some(head) => Ok(head),
+        None => Err(StackFault::Damaged { first }),
+    }
 }
