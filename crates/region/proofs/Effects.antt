@@ -5,8 +5,7 @@ use mathlib.Core.Bool.{true, false}
 use mathlib.Core.List.{List, [], _∷_, _++_}
 use Prim.Native.Nat.{ℕ, zero, suc, _+_, _<_, _≤_}
 use native.Mathlib.Omega.{arith}
-use lib.ListN.{length, getD, set, length-set}
-use Rattle.std.proofs.shelf.Lists.{getD-set-same, getD-set-other}
+use lib.ListN.{length, getD}
 use Rattle.std.specs.declared.option.Option.{Option}
 use Rattle.std.specs.declared.result.Result.the-variants.{Ok}
 use Rattle.model.specs.Rounds.{overwritten}
@@ -20,6 +19,7 @@ use Rattle.region.specs.Plans.{Plan, plan, after, stack-end, Allowed}
 use Rattle.region.specs.Laws.{Pad-back, Read-back, Reads-exactly, Effect, carried, In-idle-pad, Frames-alone-count}
 use Rattle.region.proofs.Numbers.{length-spelled}
 use Rattle.region.proofs.Frames.{frame-zip, frames-zip, region-zip, frame-inside, frame-idle, frames-inside, region-inside, pad-low, pad-high}
+use Rattle.region.proofs.Overwritten.{over-length, over-outside, over-inside}
 use Rattle.region.proofs.Reading.{pad-found, spelled-read, read-spelled}
 use Rattle.region.proofs.Writing.{pad-written}
 use Rattle.region.proofs.Plans.{Local, local, after-stands, plain-after}
@@ -33,25 +33,6 @@ pad-back a p fits lt =
     let bs : List ℕ = pad-bytes a p in
     let found = pad-found bs 0 a p fits lt (pad-written (Found bs) 0 a p (λ i l. let e : 0 + i ≡ i = omega arith in ap (λ k. getD bs k 0) e)) in
     (found .1, found .2)
-
--- bytes that are overwritten
-over-length : (xs : List ℕ) (p : ℕ) (bs : List ℕ) → length (overwritten xs p bs) ≡ length xs
-over-length xs p [] = refl
-over-length xs p (b ∷ bs) = over-length (set xs p b) (suc p) bs ∙ length-set xs p b
-
-over-outside : (xs : List ℕ) (p : ℕ) (bs : List ℕ) (q : ℕ) → Outside p (length bs) q → getD (overwritten xs p bs) q 0 ≡ getD xs q 0
-over-outside xs p [] q out = refl
-over-outside xs p (b ∷ bs) q out =
-    over-outside (set xs p b) (suc p) bs q (λ low high. out (omega arith) (omega arith)) ∙ getD-set-other xs p q b 0 (λ e. out (omega arith) (omega arith))
-
-over-inside : (xs : List ℕ) (p : ℕ) (bs : List ℕ) (i : ℕ) → i < length bs → p + length bs ≤ length xs → getD (overwritten xs p bs) (p + i) 0 ≡ getD bs i 0
-over-inside xs p [] i lt le = absurd (omega arith)
-over-inside xs p (b ∷ bs) zero lt le =
-    let e : p + 0 ≡ p = omega arith in
-    ap (λ q. getD (overwritten (set xs p b) (suc p) bs) q 0) e ∙ (over-outside (set xs p b) (suc p) bs p (λ low high. omega arith) ∙ getD-set-same xs p b 0 (omega arith))
-over-inside xs p (b ∷ bs) (suc i) lt le =
-    let e : p + suc i ≡ suc p + i = omega arith in
-    ap (λ q. getD (overwritten (set xs p b) (suc p) bs) q 0) e ∙ over-inside (set xs p b) (suc p) bs i (omega arith) (omega (arith, length-set xs p b))
 
 pub effect : Effect
 effect bs fs c bytes found a =

@@ -5,5 +5,6 @@ pub mod Writing
 pub mod Plans
 pub mod Changes
 pub mod Formats
+pub mod Overwritten
 pub mod Effects
 pub mod Heads

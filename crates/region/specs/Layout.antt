@@ -86,6 +86,10 @@ marker-place p n = args-place p + n + (pad-size + pad-size)
 abbrev pub frame-size : ℕ → ℕ
 frame-size n = count-size + kind-size + n + (pad-size + pad-size) + marker-size
 
+-- the longest frame
+abbrev pub max-frame : ℕ
+max-frame = frame-size max-args
+
 -- a marker: bit 0 is set where the stack ends, bit 1 is the number of the live pad
 abbrev pub end-bit : Bool → ℕ
 end-bit false = 0

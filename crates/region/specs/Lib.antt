@@ -8,3 +8,4 @@ pub mod Plans
 pub mod Cuts
 pub mod Answers
 pub mod Laws
+pub mod Stretches

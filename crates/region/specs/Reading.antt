@@ -84,14 +84,19 @@ frames-from (suc k) reach bs i p =
     (cond (is-last (marker-at bs p)) (Ok (frame-at bs p ∷ [])) (before (frame-at bs p) (frames-from k reach bs (suc i) (p + frame-size (count-at bs p)))))
     (Err (Damaged p))
 
+-- the three tests of the header
+abbrev pub allows-size : List ℕ → Bool
+allows-size bs = leb least-size (length bs) && leb (length bs) greatest-size
+
+abbrev pub has-version : List ℕ → Bool
+has-version bs = eqb (getD bs version-at 0) version
+
+abbrev pub has-size : List ℕ → Bool
+has-size bs = eqb (number (part bs size-at size-size)) (length bs)
+
 -- the header: 8, 9 and 10, tested in this order
 abbrev pub header : List ℕ → Result (Unit {0}) StackFault
-header bs =
-    cond (leb least-size (length bs) && leb (length bs) greatest-size)
-    (cond (eqb (getD bs version-at 0) version)
-    (cond (eqb (number (part bs size-at size-size)) (length bs)) (Ok tt) (Err StoredSize))
-    (Err Version))
-    (Err BoardSize)
+header bs = cond (allows-size bs) (cond (has-version bs) (cond (has-size bs) (Ok tt) (Err StoredSize)) (Err Version)) (Err BoardSize)
 
 abbrev pub behind : Result (Unit {0}) StackFault → Result (List Located) StackFault → Result (List Located) StackFault
 behind (Ok u) r = r

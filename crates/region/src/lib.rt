@@ -3,6 +3,8 @@ ghost use Rattle.region.specs.Laws.{Region-laws};
 pub mod frame;
 pub mod layout;
 pub mod read;
+pub mod stretch;
+pub mod write;
 
 pub fn region_laws()
     ensures { λ _. ⌜ Region-laws ⌝ }

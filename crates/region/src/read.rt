@@ -7,6 +7,7 @@ ghost use Rattle.model.specs.Writes.{bytes};
 ghost use Rattle.region.specs.Numbers.{number, part};
 ghost use Rattle.region.specs.Layout.{pad-size, frame-size};
 ghost use Rattle.region.specs.Frames.{kind-rule};
+ghost use Rattle.region.specs.Reading.{allows-size, has-version, has-size, header};
 ghost use Rattle.region.specs.Answers.{Bytes-read, pad-at, Head-read, Frame-read};
 use crate::frame::FrameHead;
 use crate::frame::pad_place;
@@ -14,12 +15,17 @@ use crate::layout::ANSWER_SIZE;
 use crate::layout::ARGS_AT;
 use crate::layout::BARE_FRAME;
 use crate::layout::COUNT_SIZE;
+use crate::layout::GREATEST_SIZE;
+use crate::layout::LEAST_SIZE;
 use crate::layout::MAX_ARGS;
 use crate::layout::MAX_FRAMES;
 use crate::layout::Marker;
 use crate::layout::NO_ANSWER;
 use crate::layout::PADS_SIZE;
+use crate::layout::SIZE_AT;
 use crate::layout::TAG_SIZE;
+use crate::layout::VERSION;
+use crate::layout::VERSION_AT;
 use crate::layout::WITH_ANSWER;
 use board::Board;
 use model::faults::BoardFault;
@@ -177,4 +183,47 @@ pub fn read_frame<B: Board>(
         Some(head) => Ok(head),
         None => Err(StackFault::Damaged { first }),
     }
+}
+
+// The number of places.
+fn length<B: Board>(board: &B) -> usize
+    ensures { λ r. ⌜ r ≡ length (bytes (meaning (now (board .entry)))) ⌝ }
+{
+    board.size()
+}
+
+fn allows_size<B: Board>(board: &B) -> bool
+    ensures { λ r. ⌜ r ≡ allows-size (bytes (meaning (now (board .entry)))) ⌝ }
+{
+    let size = length(board);
+    LEAST_SIZE <= size && size <= GREATEST_SIZE
+}
+
+fn has_version<B: Board>(board: &B) -> bool
+    ensures { λ r. ⌜ r ≡ has-version (bytes (meaning (now (board .entry)))) ⌝ }
+{
+    byte_at(board, VERSION_AT) == VERSION
+}
+
+fn has_size<B: Board>(board: &B) -> bool
+    ensures { λ r. ⌜ r ≡ has-size (bytes (meaning (now (board .entry)))) ⌝ }
+{
+    read_u32(board, SIZE_AT) as usize == length(board)
+}
+
+// Checks the header: 8 the board's size is none that a region may have, 9 place 0 does not hold the version, 10 the region was made
+// for a board of another size.
+pub fn read_header<B: Board>(board: &B) -> Result<(), StackFault>
+    ensures { λ r. ⌜ r ≡ header (bytes (meaning (now (board .entry)))) ⌝ }
+{
+    if !allows_size(board) {
+        return Err(StackFault::BoardSize);
+    }
+    if !has_version(board) {
+        return Err(StackFault::Version);
+    }
+    if !has_size(board) {
+        return Err(StackFault::StoredSize);
+    }
+    Ok(())
 }

@@ -1,0 +1,12 @@
+// Bytes that one round of writing stores, at most those of the longest frame.
+ghost use mathlib.Core.Path.{_≡_};
+ghost use Prim.Native.Nat.{_≤_};
+ghost use lib.ListN.{length};
+ghost use Rattle.region.specs.Layout.{max-frame};
+use crate::layout::MAX_FRAME;
+
+pub struct Stretch {
+    pub(crate) bytes: [u8; MAX_FRAME],
+    pub(crate) len: usize,
+    ghost fits: { (length bytes ≡ max-frame) × (len ≤ max-frame) },
+}
