@@ -7,4 +7,5 @@ pub mod Changes
 pub mod Formats
 pub mod Overwritten
 pub mod Effects
+pub mod Pieces
 pub mod Heads

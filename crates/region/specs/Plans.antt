@@ -15,7 +15,7 @@ use Rattle.region.specs.declared.layout.Pad.the-variants.{Zero}
 use Rattle.region.specs.Numbers.{spelled, Bytes}
 use Rattle.region.specs.Layout.{max-frames, max-args, version, version-at, size-at, size-size, frames-at, answer-size, progress-size, kind-size, pad-place, marker-place, frame-size, marker-byte, other}
 use Rattle.region.specs.Frames.{Located, count, end, plain}
-use Rattle.region.specs.Writing.{pad-bytes, frame-bytes}
+use Rattle.region.specs.Writing.{pad-bytes, fresh-frame}
 
 -- A change in two rounds: round one stores bytes from place at on, round two stores byte at the marker's place, mark.
 pub record Plan : Type 0 where
@@ -50,7 +50,7 @@ abbrev pub push : ℕ → List ℕ → Located → Plan
 push kind args x =
     record {
       at = end x;
-      bytes = frame-bytes (above kind args x) true;
+      bytes = fresh-frame kind args;
       mark = marker-place (x .first) (count x);
       byte = marker-byte (x .live) false;
     }
@@ -108,7 +108,7 @@ abbrev pub blank : ℕ → List Write
 blank L = round L version-at (0 ∷ [])
 
 abbrev pub fresh-bytes : ℕ → List ℕ
-fresh-bytes size = spelled size-size size ++ frame-bytes bottom true
+fresh-bytes size = spelled size-size size ++ fresh-frame 0 []
 
 abbrev pub fill : ℕ → ℕ → List Write
 fill L size = round L size-at (fresh-bytes size)

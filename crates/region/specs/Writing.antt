@@ -1,9 +1,10 @@
 -- What is written: a pad, a frame, a whole region.
-use mathlib.Core.Bool.{Bool}
+use mathlib.Core.Bool.{Bool, true}
 use mathlib.Core.List.{List, [], _∷_, _++_}
 use Prim.Native.Nat.{ℕ}
 use Rattle.std.specs.declared.option.Option.{Option}
 use Rattle.std.specs.declared.option.Option.the-variants.{Some, None}
+use Rattle.plain.specs.Frames.{fresh}
 use Rattle.plain.specs.declared.Answer.{Answer}
 use Rattle.plain.specs.declared.Progress.{Progress}
 use Rattle.region.specs.declared.layout.Pad.{Pad}
@@ -37,6 +38,10 @@ abbrev pub frame-bytes : Located → Bool → List ℕ
 frame-bytes x last =
     spelled count-size (count x) ++ (spelled kind-size (x .frame .kind) ++ (x .frame .args
     ++ (both-pads (x .live) (pad-bytes (x .frame .answer) (x .frame .progress)) ++ (marker-byte (x .live) last ∷ []))))
+
+-- a new frame on top of the stack; where it starts does not matter
+abbrev pub fresh-frame : ℕ → List ℕ → List ℕ
+fresh-frame kind args = frame-bytes (record { first = 0; live = Zero; frame = fresh kind args }) true
 
 abbrev pub frames-bytes : List Located → List ℕ
 frames-bytes [] = []

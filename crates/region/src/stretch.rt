@@ -5,6 +5,7 @@ ghost use lib.ListN.{length};
 ghost use Rattle.region.specs.Layout.{max-frame};
 use crate::layout::MAX_FRAME;
 
+#[derive(Drop)]
 pub struct Stretch {
     pub(crate) bytes: [u8; MAX_FRAME],
     pub(crate) len: usize,
