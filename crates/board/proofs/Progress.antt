@@ -4,7 +4,7 @@ use mathlib.Core.Logic.{inl, inr}
 use mathlib.Core.List.{List, [], _∷_, _++_}
 use Prim.Native.Nat.{ℕ, zero, suc, _+_, _-_, _*_, _/_, _<_, _≤_}
 use native.Mathlib.Omega.{arith}
-use native.Mathlib.Nat.{mul-le-mul-right, div-mul-le-self, le-mul-of-pos-right, add-mul-div-right}
+use native.Mathlib.Nat.{mul-le-mul-right, div-mul-le-self}
 use lib.ListN.{length, take}
 use Rattle.std.proofs.shelf.Lists.{length-append, take-all}
 use Rattle.std.specs.declared.option.Option.the-variants.{Some}
@@ -13,7 +13,7 @@ use Rattle.std.specs.declared.result.Result.the-variants.{Ok, Err}
 use Rattle.model.specs.Writes.{Meaning, bytes, Write, settle, Within, Granted, Ran, Broken}
 use Rattle.model.specs.Rounds.{stores, posts, lines, stores-and-posts, round, overwritten}
 use Rattle.model.proofs.Lists.{ran-broken, ran-join, broken-first, broken-then, broken-out}
-use Rattle.model.proofs.Rounds.{length-stores, round-parts, round-bytes, line-rises}
+use Rattle.model.proofs.Rounds.{length-stores, round-parts, round-bytes, line-rises, lines-few}
 use Rattle.model.specs.declared.faults.BoardFault.{BoardFault}
 use Rattle.board.specs.declared.rounds.Stopped.{Stopped}
 use Rattle.model.specs.Faults.{Fault}
@@ -44,14 +44,11 @@ reached-at L p n some =
     let back : suc n - 1 ≡ n = omega arith in
     let end : (p + (suc n - 1)) / L ≡ (p + n) / L = ap (λ k. (p + k) / L) back in
     let mono = line-rises L p (p + n) some (omega arith) in
-    let wide : n ≤ n * L = le-mul-of-pos-right n some in
-    let most : (p + n) / L ≤ p / L + n =
-    subst (λ k. (p + n) / L ≤ k) (add-mul-div-right p n some) (line-rises L (p + n) (p + n * L) some (omega arith)) in
     record {
       first = refl;
       ordered = omega arith;
       count = ap (λ k. k + 1 - p / L) end;
-      few = omega arith;
+      few = lines-few L p (suc n) some;
       on-board = λ l lt. let le : l ≤ (p + n) / L = omega arith in omega (arith, mul-le-mul-right L le, div-mul-le-self (p + n) L);
     }
 
@@ -120,6 +117,3 @@ unfolding Rattle.model.specs.Rounds.round
 whole-none L p [] m e = record { fits = tt; count = refl; ran = refl; present-bytes = refl }
 whole-none L p (b ∷ bs) m e = absurd (omega arith)
 
-pub lines-few : (L p n : ℕ) → 1 ≤ L → lines L p n ≤ n
-lines-few L p zero some = omega arith
-lines-few L p (suc n) some = reached-at L p n some .few

@@ -4,13 +4,14 @@ use mathlib.Core.Logic.{_⊎_, inl, inr, ⊎-elim}
 use mathlib.Core.List.{List, [], _∷_, _++_, append-assoc}
 use Prim.Native.Nat.{ℕ, zero, suc, _+_, _-_, _*_, _/_, _<_, _≤_}
 use native.Mathlib.Omega.{arith}
-use native.Mathlib.Nat.{le-div-iff-mul-le, div-lt-iff-lt-mul, div-mul-le-self, mul-div-cancel}
+use native.Mathlib.Nat.{le-div-iff-mul-le, div-lt-iff-lt-mul, div-mul-le-self, mul-div-cancel, le-mul-of-pos-right, add-mul-div-right}
 use lib.ListN.{length, take, getD, set}
 use Rattle.std.proofs.shelf.Tests.{cases-eq}
+use Rattle.std.proofs.shelf.Lists.{length-append}
 use Rattle.model.specs.Places.{settled}
 use Rattle.model.specs.Writes.{Meaning, bytes, Write, store, post, settle, Granted, Ran, Spared}
 use Rattle.model.specs.Rounds.{stores, posts, lines, stores-and-posts, round, overwritten}
-use Rattle.model.specs.Laws.{Once, Has, Outside, Round-posts, Round-outside, Round-old-or-new, Round-lasts, Round-bytes}
+use Rattle.model.specs.Laws.{Once, Has, Outside, Round-posts, Round-short, Round-outside, Round-old-or-new, Round-lasts, Round-bytes}
 use Rattle.model.proofs.Places.{holds, Rests, rests-steady, Shows, shows-steady, Ready, store-shows, post-ready, stays-ready, settle-rests, settled-survives}
 use Rattle.model.proofs.Lists.{ran-split, ran-size, spared-take, spared-append, once-take, once-before, ran-holds, cut-old-or-new, written, ran-bytes}
 
@@ -158,6 +159,24 @@ round-parts L p (b ∷ bs) lt = append-assoc (stores p (b ∷ bs)) (posts (p / L
 pub round-none : (L p : ℕ) → round L p [] ≡ []
 unfolding round
 round-none L p = refl
+
+-- at most as many lines as places, and how many calls that makes
+pub lines-few : (L p n : ℕ) → 0 < L → lines L p n ≤ n
+lines-few L p zero some = omega arith
+lines-few L p (suc n) some =
+    let wide : n ≤ n * L = le-mul-of-pos-right n some in
+    let most : (p + n) / L ≤ p / L + n = subst (λ k. (p + n) / L ≤ k) (add-mul-div-right p n some) (line-rises L (p + n) (p + n * L) some (omega arith)) in
+    omega arith
+
+pub round-short : Round-short
+unfolding round
+round-short L p [] some = omega arith
+round-short L p (b ∷ bs) some =
+    let n : ℕ = lines L p (length (b ∷ bs)) in
+    omega (arith,
+      length-append (stores p (b ∷ bs)) (posts (p / L) n ++ (settle ∷ [])),
+      length-append (posts (p / L) n) (settle ∷ []),
+      length-stores p (b ∷ bs), length-posts (p / L) n, lines-few L p (length (b ∷ bs)) some)
 
 -- which lines a round posts
 has-append : (w : Write) (us vs : List Write) → Has w vs → Has w (us ++ vs)

@@ -72,6 +72,10 @@ Round-posts =
     → ((i : ℕ) → i < length bs → Has (post ((p + i) / L)) (round L p bs))
     × ((l : ℕ) → Has (post l) (round L p bs) → (i : ℕ) × (i < length bs) × ((p + i) / L ≡ l))
 
+-- A round of n bytes takes at most 2 n + 1 calls.
+abbrev pub Round-short : Type 0
+Round-short = (L p : ℕ) (bs : List ℕ) → 0 < L → length (round L p bs) ≤ length bs + length bs + 1
+
 -- After the first k calls of a round every settled place outside it is settled at its byte, and holds it after a power cut.
 abbrev pub Round-outside : Type 0
 Round-outside =
@@ -103,6 +107,7 @@ pub record Board-laws : Type 0 where
   pub bytes-follow : Bytes-follow
   pub ran-spends : Ran-spends
   pub round-posts : Round-posts
+  pub round-short : Round-short
   pub round-outside : Round-outside
   pub round-old-or-new : Round-old-or-new
   pub round-lasts : Round-lasts

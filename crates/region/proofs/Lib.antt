@@ -7,5 +7,6 @@ pub mod Changes
 pub mod Formats
 pub mod Overwritten
 pub mod Effects
+pub mod Operations
 pub mod Pieces
 pub mod Heads

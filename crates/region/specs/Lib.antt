@@ -9,3 +9,4 @@ pub mod Cuts
 pub mod Answers
 pub mod Laws
 pub mod Stretches
+pub mod Operations

@@ -3,6 +3,7 @@ ghost use Rattle.region.specs.Laws.{Region-laws};
 pub mod frame;
 pub mod layout;
 pub mod read;
+mod rounds;
 pub mod stretch;
 pub mod write;
 

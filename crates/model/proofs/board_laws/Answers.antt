@@ -1,6 +1,6 @@
 use Rattle.model.proofs.Places.{settled-stays, settled-survives, cut-supplies, bytes-follow}
 use Rattle.model.proofs.Lists.{stored-lasts, cut-old-or-new, ran-spends}
-use Rattle.model.proofs.Rounds.{round-posts, round-outside, round-old-or-new, round-lasts, round-bytes}
+use Rattle.model.proofs.Rounds.{round-posts, round-short, round-outside, round-old-or-new, round-lasts, round-bytes}
 use Rattle.model.proofs.board_laws.Needs as need
 
 pub returns : need.returns
@@ -14,6 +14,7 @@ returns c =
       bytes-follow = bytes-follow;
       ran-spends = ran-spends;
       round-posts = round-posts;
+      round-short = round-short;
       round-outside = round-outside;
       round-old-or-new = round-old-or-new;
       round-lasts = round-lasts;

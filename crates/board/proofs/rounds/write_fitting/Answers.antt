@@ -4,8 +4,8 @@ use lib.ListN.{length}
 use Rattle.std.proofs.shelf.Lists.{length-append}
 use Rattle.std.proofs.shelf.Results.{err-from-errBy}
 use Rattle.model.specs.Rounds.{stores, posts, lines}
-use Rattle.model.proofs.Rounds.{length-stores, length-posts}
-use Rattle.board.proofs.Progress.{written-short, settled-short, settled-whole, lines-few}
+use Rattle.model.proofs.Rounds.{length-stores, length-posts, lines-few}
+use Rattle.board.proofs.Progress.{written-short, settled-short, settled-whole}
 use Rattle.board.proofs.rounds.write_fitting.Needs as need
 
 pub returns-in-Break-carried : need.returns-in-Break-carried
