@@ -53,7 +53,7 @@ bottom-stands size fits =
       row = (record { first = refl; ends = omega (arith, fits .0); rule = refl; kind = omega arith; args = tt; progress = omega arith; answer = tt }, tt);
     }
 
-length-fresh : (size : ℕ) → length (fresh-bytes size) ≡ size-size + frame-size 0
+pub length-fresh : (size : ℕ) → length (fresh-bytes size) ≡ size-size + frame-size 0
 length-fresh size = length-append (spelled size-size size) (frame-bytes bottom true) ∙ ap (λ n. n + frame-size 0) (length-spelled size-size size)
 
 -- the version before the bytes of round two

@@ -52,5 +52,9 @@ pub record Format-refused (m : Meaning) (e : StackFault) (n : Meaning) : Type 0 
   pub fault : Refusal 8 Stack 0 e
   pub untouched : n ≡ m
 
+-- on a board whose size is allowed
+abbrev pub Format-carried : ℕ → Meaning → Result (Unit {0}) StackFault → Meaning → Type 0
+Format-carried L m r n = Cases r (λ _. Formatted L m n) (λ e. Format-stopped L m e n)
+
 abbrev pub Format-answered : ℕ → Meaning → Result (Unit {0}) StackFault → Meaning → Type 0
 Format-answered L m r n = Cases r (λ _. Formatted L m n) (λ e. Format-stopped L m e n ⊎ Format-refused m e n)

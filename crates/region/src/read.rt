@@ -1,13 +1,14 @@
 // Reading over any board.
 ghost use mathlib.Core.Path.{_≡_};
+ghost use mathlib.Core.Bool.{true, false, _&&_};
 ghost use Prim.Native.Nat.{_+_, _^_, _<_, _≤_};
 ghost use lib.Dec.{leb};
 ghost use lib.ListN.{length, getD};
 ghost use Rattle.model.specs.Writes.{bytes};
 ghost use Rattle.region.specs.Numbers.{number, part};
-ghost use Rattle.region.specs.Layout.{pad-size, frame-size};
-ghost use Rattle.region.specs.Frames.{kind-rule};
-ghost use Rattle.region.specs.Reading.{allows-size, has-version, has-size, header};
+ghost use Rattle.region.specs.Layout.{least-size, greatest-size, pad-size, frame-size};
+ghost use Rattle.region.specs.Frames.{kind-rule, Size-allowed};
+ghost use Rattle.region.specs.Reading.{has-version, has-size, header};
 ghost use Rattle.region.specs.Answers.{Bytes-read, pad-at, Head-read, Frame-read};
 use crate::frame::FrameHead;
 use crate::frame::pad_place;
@@ -192,10 +193,12 @@ fn length<B: Board>(board: &B) -> usize
     board.size()
 }
 
-fn allows_size<B: Board>(board: &B) -> bool
-    ensures { λ r. ⌜ r ≡ allows-size (bytes (meaning (now (board .entry)))) ⌝ }
+// Whether a region may have so many places.
+pub(crate) fn is_allowed(size: usize) -> bool
+    ensures test { λ r. ⌜ r ≡ (leb least-size size && leb size greatest-size) ⌝ }
+    ensures allowed { λ r. ⌜ (r ≡ true → Size-allowed size) ⌝ }
+    ensures other { λ r. ⌜ (r ≡ false → Size-allowed size → ⊥) ⌝ }
 {
-    let size = length(board);
     LEAST_SIZE <= size && size <= GREATEST_SIZE
 }
 
@@ -216,7 +219,7 @@ fn has_size<B: Board>(board: &B) -> bool
 pub fn read_header<B: Board>(board: &B) -> Result<(), StackFault>
     ensures { λ r. ⌜ r ≡ header (bytes (meaning (now (board .entry)))) ⌝ }
 {
-    if !allows_size(board) {
+    if !is_allowed(length(board)) {
         return Err(StackFault::BoardSize);
     }
     if !has_version(board) {

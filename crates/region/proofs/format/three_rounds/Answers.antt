@@ -1,0 +1,43 @@
+use mathlib.Core.Path.{_≡_, ap, _∙_}
+use native.Mathlib.Omega.{arith}
+use denote.Ref.{now}
+use Rattle.std.proofs.shelf.Results.{err-from-errBy}
+use Rattle.region.specs.Plans.{fresh-bytes}
+use Rattle.region.proofs.Operations.{two-fits, three-fits, stopped-one, stopped-two, stopped-three, whole-three}
+use Rattle.region.proofs.format.three_rounds.Needs as need
+
+pub returns-in-Break-blank : need.returns-in-Break-blank
+returns-in-Break-blank g c =
+    let p = err-from-errBy (c .from-residual .result) (c .from-residual .ensures .1) in
+    rw (p .1, p .2) (stopped-one (g .B·Board .width) (g .B·Board .meaning (now (c .args .board))) (g .B·Board .bounded .0) (c .pre) _ _ (c .in-Break-blank .ensures tt))
+
+pub next-round-requires-2 : need.next-round-requires-2
+next-round-requires-2 g c κs =
+    two-fits (g .B·Board .width) (g .B·Board .meaning (now (c .args .board))) (g .B·Board .bounded .0) (c .pre)
+      (now (c .as-slice .result)) (c .as-slice .ensures ∙ (c .fresh-bytes-bytes .ensures ∙ ap fresh-bytes (c .size .ensures))) _ _ (c .in-Continue-blank .ensures tt)
+
+pub returns-in-Break-filled : need.returns-in-Break-filled
+returns-in-Break-filled g c =
+    let p = err-from-errBy (c .from-residual-in-Break-filled .result) (c .from-residual-in-Break-filled .ensures .1) in
+    rw (p .1, p .2)
+    (stopped-two (g .B·Board .width) (g .B·Board .meaning (now (c .args .board))) (g .B·Board .bounded .0) (c .pre)
+      (now (c .as-slice .result)) (c .as-slice .ensures ∙ (c .fresh-bytes-bytes .ensures ∙ ap fresh-bytes (c .size .ensures))) _ _ _ _ (c .in-Continue-blank .ensures tt) (c .in-Break-filled .ensures tt))
+
+pub next-round-requires-3 : need.next-round-requires-3
+next-round-requires-3 g c κs =
+    let r =
+        three-fits (g .B·Board .width) (g .B·Board .meaning (now (c .args .board))) (g .B·Board .bounded .0) (c .pre)
+          (now (c .as-slice .result)) (c .as-slice .ensures ∙ (c .fresh-bytes-bytes .ensures ∙ ap fresh-bytes (c .size .ensures))) _ _ _ _ (c .in-Continue-blank .ensures tt) (c .in-Continue-filled .ensures tt) in
+    ((omega arith, r .0, omega arith), r .1)
+
+pub returns-in-Break-next-round : need.returns-in-Break-next-round
+returns-in-Break-next-round g c =
+    let p = err-from-errBy (c .from-residual-in-Break-next-round .result) (c .from-residual-in-Break-next-round .ensures .1) in
+    rw (p .1, p .2)
+    (stopped-three (g .B·Board .width) (g .B·Board .meaning (now (c .args .board))) (g .B·Board .bounded .0) (c .pre)
+      (now (c .as-slice .result)) (c .as-slice .ensures ∙ (c .fresh-bytes-bytes .ensures ∙ ap fresh-bytes (c .size .ensures))) _ _ _ _ _ _ (c .in-Continue-blank .ensures tt) (c .in-Continue-filled .ensures tt) (c .in-Break-next-round .ensures tt))
+
+pub returns : need.returns
+returns g c =
+    whole-three (g .B·Board .width) (g .B·Board .meaning (now (c .args .board))) (g .B·Board .bounded .0) (c .pre)
+      (now (c .as-slice .result)) (c .as-slice .ensures ∙ (c .fresh-bytes-bytes .ensures ∙ ap fresh-bytes (c .size .ensures))) _ _ _ (c .in-Continue-blank .ensures tt .1) (c .in-Continue-filled .ensures tt .1) (c .in-Continue-next-round .ensures tt .1)

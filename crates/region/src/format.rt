@@ -1,0 +1,38 @@
+// Makes a region an empty stack.
+ghost use Rattle.region.specs.Frames.{Size-allowed};
+ghost use Rattle.region.specs.Operations.{Format-answered, Format-carried};
+use crate::layout::SIZE_AT;
+use crate::layout::VERSION;
+use crate::layout::VERSION_AT;
+use crate::read::is_allowed;
+use crate::rounds::next_round;
+use crate::write::fresh_bytes;
+use board::Board;
+use board::Slip;
+use model::faults::StackFault;
+
+// The three rounds: the region is blank, then its size and its bottom frame are written, and then it has its version.
+fn three_rounds<B: Board>(board: &mut B) -> Result<(), StackFault>
+    requires { ⌜ Size-allowed (meaning (now board) .size) ⌝ }
+    ensures { λ r. ⌜ Format-carried width (meaning (now (board .entry))) r (meaning (now (board .exit))) ⌝ }
+{
+    let bytes = fresh_bytes(board.size() as u32);
+    let slip = Slip::take();
+    let blank = next_round(board, slip, 0, VERSION_AT, &[0])?;
+    let slip = Slip::take();
+    let filled = next_round(board, slip, blank, SIZE_AT, bytes.as_slice())?;
+    let slip = Slip::take();
+    next_round(board, slip, filled, VERSION_AT, &[VERSION])?;
+    Ok(())
+}
+
+// Makes the region an empty stack: the bottom alone, with progress 0 and no answer. On a board whose size is none of a region it is
+// refused with 8, and the board stays. Where the power ends it, it answers 1 with the number of writing calls carried out.
+pub fn format<B: Board>(board: &mut B) -> Result<(), StackFault>
+    ensures { λ r. ⌜ Format-answered width (meaning (now (board .entry))) r (meaning (now (board .exit))) ⌝ }
+{
+    if !is_allowed(board.size()) {
+        return Err(StackFault::BoardSize);
+    }
+    three_rounds(board)
+}
