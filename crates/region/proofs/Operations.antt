@@ -6,6 +6,8 @@ use Prim.Native.Nat.{ℕ, _+_, _^_, _<_, _≤_}
 use native.Mathlib.Omega.{arith}
 use lib.ListN.{length}
 use Rattle.std.proofs.shelf.Lists.{length-append}
+use Rattle.std.specs.declared.result.Result.{Result}
+use Rattle.std.specs.declared.result.Result.the-variants.{Ok, Err}
 use Rattle.model.specs.declared.faults.BoardFault.{BoardFault}
 use Rattle.model.specs.declared.faults.BoardFault.the-variants.{NoPower, Outside}
 use Rattle.model.specs.declared.faults.StackFault.{StackFault}
@@ -20,7 +22,7 @@ use Rattle.board.specs.Rounds.{On-board, Fits, Whole, Cut-short, Too-long}
 use Rattle.region.specs.Frames.{Size-allowed}
 use Rattle.region.specs.Layout.{version-at, size-at, size-size, frame-size}
 use Rattle.region.specs.Plans.{blank, fresh-bytes, fill, finish, format-plan}
-use Rattle.region.specs.Operations.{with-count, Formatted, Format-stopped}
+use Rattle.region.specs.Operations.{with-count, Counted, Formatted, Format-stopped, Format-carried}
 use Rattle.region.proofs.Formats.{length-fresh, format-cut, format-lasts}
 
 power-fault : (e : BoardFault) (k : ℕ) → Fault 1 0 e → Refusal 1 Board k (with-count e k)
@@ -50,8 +52,8 @@ pub format-stopped : (L k : ℕ) (m : Meaning) (e : StackFault) (n : Meaning) �
 format-stopped L k m e n some fits f b =
     record { size-allowed = fits; carried = k; fault = f; broken = b; found = λ a s o at cut. format-cut L k a m n o s some fits at (b .ran) cut }
 
-pub formatted : (L : ℕ) (m n : Meaning) → 0 < L → Size-allowed (m .size) → Ran L (format-plan L (m .size)) m n → Formatted L m n
-formatted L m n some fits r = record { size-allowed = fits; ran = r; found = format-lasts L m n some fits r }
+pub formatted : (L : ℕ) (m : Meaning) (k : ℕ) (n : Meaning) → 0 < L → Size-allowed (m .size) → k ≡ length (format-plan L (m .size)) → Ran L (format-plan L (m .size)) m n → Formatted L m k n
+formatted L m k n some fits e r = record { size-allowed = fits; count = e; ran = r; found = format-lasts L m n some fits r }
 
 module _ (L : ℕ) (m : Meaning) (some : 0 < L) (fits : Size-allowed (m .size)) where
   abbrev one : List Write
@@ -100,5 +102,12 @@ module _ (L : ℕ) (m : Meaning) (some : 0 < L) (fits : Size-allowed (m .size)) 
         format-stopped L (j + b .0) m e u some fits (b .1)
         (subst (λ k. Broken L (format-plan L (m .size)) m k u) (omega (arith, r .0, s .0, ap length as-two)) (broken-then L one (two ++ three) (length two + b .0) m n u (r .1) (broken-then L two three (b .0) n o u second (b .2))))
 
-    pub whole-three : (n o u : Meaning) → Ran L one m n → Ran L filling n o → Ran L three o u → Formatted L m u
-    whole-three n o u r s t = formatted L m u some fits (ran-join L one (two ++ three) m n u r (ran-join L two three n o u (subst (λ ws. Ran L ws n o) as-two s) t))
+    pub whole-three : (i j k : ℕ) (n o u : Meaning) → (i ≡ 0 + length one) × Ran L one m n → (j ≡ i + length filling) × Ran L filling n o → (k ≡ j + length three) × Ran L three o u → Formatted L m k u
+    whole-three i j k n o u r s t =
+        formatted L m k u some fits
+        (omega (arith, r .0, s .0, t .0, ap length as-two, length-append one (two ++ three), length-append two three))
+        (ran-join L one (two ++ three) m n u (r .1) (ran-join L two three n o u (subst (λ ws. Ran L ws n o) as-two (s .1)) (t .1)))
+
+    pub last-round : (i j : ℕ) (n o u : Meaning) (r : Result ℕ StackFault) → (i ≡ 0 + length one) × Ran L one m n → (j ≡ i + length filling) × Ran L filling n o → Counted L j three o r u → Format-carried L m r u
+    last-round i j n o u (Ok k) r s t = whole-three i j k n o u r s t
+    last-round i j n o u (Err e) r s t = stopped-three i j n o u e r s t

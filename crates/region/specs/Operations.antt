@@ -31,9 +31,10 @@ abbrev pub Counted : ℕ → ℕ → List Write → Meaning → Result ℕ Stack
 Counted L before ws m r n =
     Cases r (λ k. (k ≡ before + length ws) × Ran L ws m n) (λ e. (k : ℕ) × Refusal 1 Board (before + k) e × Broken L ws m k n)
 
--- the whole format is carried out: the empty stack is found
-pub record Formatted (L : ℕ) (m n : Meaning) : Type 0 where
+-- the whole format is carried out, in k calls: the empty stack is found
+pub record Formatted (L : ℕ) (m : Meaning) (k : ℕ) (n : Meaning) : Type 0 where
   pub size-allowed : Size-allowed (m .size)
+  pub count : k ≡ length (format-plan L (m .size))
   pub ran : Ran L (format-plan L (m .size)) m n
   pub found : Finds n (bottom ∷ [])
 
@@ -53,8 +54,8 @@ pub record Format-refused (m : Meaning) (e : StackFault) (n : Meaning) : Type 0 
   pub untouched : n ≡ m
 
 -- on a board whose size is allowed
-abbrev pub Format-carried : ℕ → Meaning → Result (Unit {0}) StackFault → Meaning → Type 0
-Format-carried L m r n = Cases r (λ _. Formatted L m n) (λ e. Format-stopped L m e n)
+abbrev pub Format-carried : ℕ → Meaning → Result ℕ StackFault → Meaning → Type 0
+Format-carried L m r n = Cases r (λ k. Formatted L m k n) (λ e. Format-stopped L m e n)
 
-abbrev pub Format-answered : ℕ → Meaning → Result (Unit {0}) StackFault → Meaning → Type 0
-Format-answered L m r n = Cases r (λ _. Formatted L m n) (λ e. Format-stopped L m e n ⊎ Format-refused m e n)
+abbrev pub Format-answered : ℕ → Meaning → Result ℕ StackFault → Meaning → Type 0
+Format-answered L m r n = Cases r (λ k. Formatted L m k n) (λ e. Format-stopped L m e n ⊎ Format-refused m e n)

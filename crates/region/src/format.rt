@@ -12,7 +12,7 @@ use board::Slip;
 use model::faults::StackFault;
 
 // The three rounds: the region is blank, then its size and its bottom frame are written, and then it has its version.
-fn three_rounds<B: Board>(board: &mut B) -> Result<(), StackFault>
+fn three_rounds<B: Board>(board: &mut B) -> Result<u64, StackFault>
     requires { ⌜ Size-allowed (meaning (now board) .size) ⌝ }
     ensures { λ r. ⌜ Format-carried width (meaning (now (board .entry))) r (meaning (now (board .exit))) ⌝ }
 {
@@ -22,13 +22,13 @@ fn three_rounds<B: Board>(board: &mut B) -> Result<(), StackFault>
     let slip = Slip::take();
     let filled = next_round(board, slip, blank, SIZE_AT, bytes.as_slice())?;
     let slip = Slip::take();
-    next_round(board, slip, filled, VERSION_AT, &[VERSION])?;
-    Ok(())
+    next_round(board, slip, filled, VERSION_AT, &[VERSION])
 }
 
-// Makes the region an empty stack: the bottom alone, with progress 0 and no answer. On a board whose size is none of a region it is
-// refused with 8, and the board stays. Where the power ends it, it answers 1 with the number of writing calls carried out.
-pub fn format<B: Board>(board: &mut B) -> Result<(), StackFault>
+// Makes the region an empty stack, the bottom alone with progress 0 and no answer, and answers how many writing calls that took. On a
+// board whose size is none of a region it is refused with 8, and the board stays. Where the power ends it, it is refused with 1 and
+// the number of writing calls carried out.
+pub fn format<B: Board>(board: &mut B) -> Result<u64, StackFault>
     ensures { λ r. ⌜ Format-answered width (meaning (now (board .entry))) r (meaning (now (board .exit))) ⌝ }
 {
     if !is_allowed(board.size()) {

@@ -3,7 +3,7 @@ use native.Mathlib.Omega.{arith}
 use denote.Ref.{now}
 use Rattle.std.proofs.shelf.Results.{err-from-errBy}
 use Rattle.region.specs.Plans.{fresh-bytes}
-use Rattle.region.proofs.Operations.{two-fits, three-fits, stopped-one, stopped-two, stopped-three, whole-three}
+use Rattle.region.proofs.Operations.{two-fits, three-fits, stopped-one, stopped-two, last-round}
 use Rattle.region.proofs.format.three_rounds.Needs as need
 
 pub returns-in-Break-blank : need.returns-in-Break-blank
@@ -30,14 +30,7 @@ next-round-requires-3 g c κs =
           (now (c .as-slice .result)) (c .as-slice .ensures ∙ (c .fresh-bytes-bytes .ensures ∙ ap fresh-bytes (c .size .ensures))) _ _ _ _ (c .in-Continue-blank .ensures tt) (c .in-Continue-filled .ensures tt) in
     ((omega arith, r .0, omega arith), r .1)
 
-pub returns-in-Break-next-round : need.returns-in-Break-next-round
-returns-in-Break-next-round g c =
-    let p = err-from-errBy (c .from-residual-in-Break-next-round .result) (c .from-residual-in-Break-next-round .ensures .1) in
-    rw (p .1, p .2)
-    (stopped-three (g .B·Board .width) (g .B·Board .meaning (now (c .args .board))) (g .B·Board .bounded .0) (c .pre)
-      (now (c .as-slice .result)) (c .as-slice .ensures ∙ (c .fresh-bytes-bytes .ensures ∙ ap fresh-bytes (c .size .ensures))) _ _ _ _ _ _ (c .in-Continue-blank .ensures tt) (c .in-Continue-filled .ensures tt) (c .in-Break-next-round .ensures tt))
-
 pub returns : need.returns
 returns g c =
-    whole-three (g .B·Board .width) (g .B·Board .meaning (now (c .args .board))) (g .B·Board .bounded .0) (c .pre)
-      (now (c .as-slice .result)) (c .as-slice .ensures ∙ (c .fresh-bytes-bytes .ensures ∙ ap fresh-bytes (c .size .ensures))) _ _ _ (c .in-Continue-blank .ensures tt .1) (c .in-Continue-filled .ensures tt .1) (c .in-Continue-next-round .ensures tt .1)
+    last-round (g .B·Board .width) (g .B·Board .meaning (now (c .args .board))) (g .B·Board .bounded .0) (c .pre)
+      (now (c .as-slice .result)) (c .as-slice .ensures ∙ (c .fresh-bytes-bytes .ensures ∙ ap fresh-bytes (c .size .ensures))) _ _ _ _ _ _ (c .in-Continue-blank .ensures tt) (c .in-Continue-filled .ensures tt) (c .next-round-3 .ensures)
