@@ -9,7 +9,7 @@ use lib.ListN.{length, take, getD}
 use Rattle.std.specs.declared.option.Option.{Option}
 use Rattle.std.specs.declared.option.Option.the-variants.{Some, None}
 use Rattle.model.specs.Places.{settled, present}
-use Rattle.model.specs.Writes.{Meaning, Cut, Ran}
+use Rattle.model.specs.Writes.{Meaning, Write, Cut, Ran}
 use Rattle.model.specs.Rounds.{round}
 
 -- the record's first place, its length, and the place behind it
@@ -28,22 +28,22 @@ old-record = codes "old-vote"
 abbrev pub new-record : List ℕ
 new-record = codes "NEW+VOTE"
 
--- the old record is settled, and the power carries s
-pub record Prepared (s : Option ℕ) (m : Meaning) : Type 0 where
-  pub size : record-end ≤ m .size
+-- the bytes bs are settled from place p on, and the power carries s
+pub record Prepared (p : ℕ) (bs : List ℕ) (s : Option ℕ) (m : Meaning) : Type 0 where
+  pub room : p + length bs ≤ m .size
   pub supply : m .supply ≡ s
-  pub places : (k : ℕ) → k < record-size → m .at (record-at + k) ≡ settled (getD old-record k 0)
+  pub places : (k : ℕ) → k < length bs → m .at (p + k) ≡ settled (getD bs k 0)
 
--- how many calls of the update a supply carries
-abbrev pub calls : ℕ → Option ℕ → ℕ
-calls L None = length (round L record-at new-record)
-calls L (Some s) = min s (length (round L record-at new-record))
+-- how many of these calls a supply carries
+abbrev pub carries : List Write → Option ℕ → ℕ
+carries ws None = length ws
+carries ws (Some s) = min s (length ws)
 
 -- k calls, as many as the supply s carries, were carried out of the round that writes the new record over the old one
 pub record Updated (L : ℕ) (s : Option ℕ) (k : ℕ) (n : Meaning) : Type 0 where
-  pub count : k ≡ calls L s
+  pub count : k ≡ carries (round L record-at new-record) s
   pub start : Meaning
-  pub old : Prepared s start
+  pub old : Prepared record-at old-record s start
   pub ran : Ran L (take k (round L record-at new-record)) start n
 
 -- every byte is the old record's or the new one's

@@ -1,7 +1,7 @@
 // The record, and its update on any board.
 ghost use mathlib.Core.Path.{_≡_};
 ghost use Prim.Native.Nat.{ℕ, _+_, _<_, _≤_};
-ghost use lib.ListN.{getD};
+ghost use lib.ListN.{length, getD};
 ghost use Rattle.model.specs.Places.{present};
 ghost use Rattle.survey.specs.Record.{record-at, record-size, record-end, Prepared, Updated, Shown, Found, Old-or-new};
 use board::Board;
@@ -18,13 +18,13 @@ pub(crate) const OLD: [u8; LEN] = *b"old-vote";
 
 pub(crate) const NEW: [u8; LEN] = *b"NEW+VOTE";
 
-// Settles the old record, and gives the power a supply.
-fn prepare<B: Board>(board: &mut B, supply: Option<u64>)
-    ensures { λ _. ⌜ (record-end ≤ meaning (now (board .entry)) .size → Prepared supply (meaning (now (board .exit)))) ⌝ }
+// Settles the bytes from `at` on, and gives the power a supply.
+pub(crate) fn prepare<B: Board>(board: &mut B, supply: Option<u64>, at: usize, bytes: &[u8])
+    ensures { λ _. ⌜ (at + length (now (bytes .entry)) ≤ meaning (now (board .entry)) .size → Prepared at (now (bytes .entry)) supply (meaning (now (board .exit)))) ⌝ }
 {
     board.cut(&[], None);
     let slip = Slip::take();
-    let _ = write_round(board, slip, AT, &OLD);
+    let _ = write_round(board, slip, at, bytes);
     board.cut(&[], supply);
 }
 
@@ -32,7 +32,7 @@ fn prepare<B: Board>(board: &mut B, supply: Option<u64>)
 pub(crate) fn update<B: Board>(board: &mut B, supply: Option<u64>) -> u64
     ensures { λ r. ⌜ (record-end ≤ meaning (now (board .entry)) .size → Updated width supply r (meaning (now (board .exit)))) ⌝ }
 {
-    prepare(board, supply);
+    prepare(board, supply, AT, &OLD);
     let slip = Slip::take();
     match write_round(board, slip, AT, &NEW) {
         Ok(carried) => carried,
