@@ -5,7 +5,7 @@ use mathlib.Core.List.{List, [], _∷_}
 use Prim.Native.Nat.{ℕ, _+_, _<_, _≤_}
 use native.Mathlib.Omega.{arith}
 use native.Mathlib.Nat.{min-eq-left, min-eq-right}
-use lib.ListN.{length, getD}
+use lib.ListN.{length, take, getD}
 use Rattle.std.proofs.shelf.Lists.{take-all}
 use Rattle.std.specs.declared.option.Option.{Option}
 use Rattle.std.specs.declared.option.Option.the-variants.{Some, None}
@@ -28,6 +28,12 @@ unlimited L p bs m n (Ok k) free long w = w .ran
 unlimited L p bs m n (Err s) free long (inl c) = let z : _≡_ {A = ℕ} 0 1 = cc (free, c .broken .supply) in absurd (omega arith)
 unlimited L p [] m n (Err s) free long (inr t) = absurd (t .outside tt)
 unlimited L p (b ∷ bs) m n (Err s) free long (inr t) = absurd (t .outside long)
+
+-- a round keeps the number of places, whatever it answers
+pub round-size : (L p : ℕ) (bs : List ℕ) (m n : Meaning) (r : Result ℕ Stopped) → Round L p bs m r n → n .size ≡ m .size
+round-size L p bs m n (Ok k) w = ran-size L (round L p bs) m n (w .ran)
+round-size L p bs m n (Err s) (inl c) = ran-size L (take (s .carried) (round L p bs)) m n (c .broken .ran)
+round-size L p bs m n (Err s) (inr t) = ap (λ x. x .size) (t .untouched)
 
 pub prepared : (L p : ℕ) (bs : List ℕ) (s : Option ℕ) (l m n o : Meaning) (r : Result ℕ Stopped) → 1 ≤ L → p + length bs ≤ l .size → Cut None l m → Round L p bs m r n → Cut s n o → Prepared p bs s o
 prepared L p bs s l m n o r some long first round second =

@@ -1,1 +1,2 @@
 pub mod Record
+pub mod Formats

@@ -1,4 +1,5 @@
-// What a power cut leaves of an 8-byte record that is updated in one round of writing: at every supply of power, on both makes of board.
+// What a power cut leaves, at every supply of power and on both makes of board: of an 8-byte record that is updated in one round of
+// writing, and of a region that is formatted in three.
 use board::line::Cell;
 use board::line::LineBoard;
 use board::line::Lined;
@@ -6,9 +7,11 @@ use board::through::Through;
 use board::through::ThroughBoard;
 use std::io;
 
+mod formats;
 mod record;
 mod table;
 
+use formats::survey_format;
 use table::LinePeek;
 use table::ThroughPeek;
 use table::survey;
@@ -32,5 +35,17 @@ fn main(rt: LibcRuntime) -> io::Result<()> {
     let mut bytes = [0; SIZE];
     println!(rt, "")?;
     println!(rt, "Through board, every byte lasts as it is stored")?;
-    survey(&rt, &mut ThroughBoard::over(&mut bytes))
+    survey(&rt, &mut ThroughBoard::over(&mut bytes))?;
+    println!(rt, "")?;
+    println!(
+        rt,
+        "A region whose bottom frame has progress 7 is formatted in three rounds, and the power is cut."
+    )?;
+    println!(rt, "Places 0 to 43 are then found:")?;
+    println!(rt, "")?;
+    println!(rt, "Line board")?;
+    survey_format(&rt, &mut LineBoard::over(&mut cells))?;
+    println!(rt, "")?;
+    println!(rt, "Through board")?;
+    survey_format(&rt, &mut ThroughBoard::over(&mut bytes))
 }

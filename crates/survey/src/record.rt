@@ -20,7 +20,8 @@ pub(crate) const NEW: [u8; LEN] = *b"NEW+VOTE";
 
 // Settles the bytes from `at` on, and gives the power a supply.
 pub(crate) fn prepare<B: Board>(board: &mut B, supply: Option<u64>, at: usize, bytes: &[u8])
-    ensures { λ _. ⌜ (at + length (now (bytes .entry)) ≤ meaning (now (board .entry)) .size → Prepared at (now (bytes .entry)) supply (meaning (now (board .exit)))) ⌝ }
+    ensures size { λ _. ⌜ meaning (now (board .exit)) .size ≡ meaning (now (board .entry)) .size ⌝ }
+    ensures prepared { λ _. ⌜ (at + length (now (bytes .entry)) ≤ meaning (now (board .entry)) .size → Prepared at (now (bytes .entry)) supply (meaning (now (board .exit)))) ⌝ }
 {
     board.cut(&[], None);
     let slip = Slip::take();
