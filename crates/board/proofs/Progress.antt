@@ -116,4 +116,3 @@ pub whole-none : (L p : ℕ) (bs : List ℕ) (m : Meaning) → length bs ≡ 0 �
 unfolding Rattle.model.specs.Rounds.round
 whole-none L p [] m e = record { fits = tt; count = refl; ran = refl; present-bytes = refl }
 whole-none L p (b ∷ bs) m e = absurd (omega arith)
-

@@ -173,10 +173,14 @@ unfolding round
 round-short L p [] some = omega arith
 round-short L p (b ∷ bs) some =
     let n : ℕ = lines L p (length (b ∷ bs)) in
-    omega (arith,
+    omega (
+      arith,
       length-append (stores p (b ∷ bs)) (posts (p / L) n ++ (settle ∷ [])),
       length-append (posts (p / L) n) (settle ∷ []),
-      length-stores p (b ∷ bs), length-posts (p / L) n, lines-few L p (length (b ∷ bs)) some)
+      length-stores p (b ∷ bs),
+      length-posts (p / L) n,
+      lines-few L p (length (b ∷ bs)) some,
+    )
 
 -- which lines a round posts
 has-append : (w : Write) (us vs : List Write) → Has w vs → Has w (us ++ vs)

@@ -37,10 +37,10 @@ settled-found m fs s =
       settled-frames = s;
       frames =
           spelled-read (bytes m) fs
-            (record {
-              stands = subst (λ k. Stands k fs) (sym n) (s .stands);
-              laid = subst (λ k. Region-laid (Found (bytes m)) k fs) (sym n) found;
-            });
+          (record {
+            stands = subst (λ k. Stands k fs) (sym n) (s .stands);
+            laid = subst (λ k. Region-laid (Found (bytes m)) k fs) (sym n) found;
+          });
     }
 
 -- a plan and the whole region
@@ -101,9 +101,9 @@ module _ (L : ℕ) (c : Change) (fs : List Located) (m : Meaning) (some : 0 < L)
   -- through the first calls of round one, and a power cut
   one-keeps : (k : ℕ) (n o : Meaning) (t : Option ℕ) → Ran L (take k one) m n → Old n × (Cut t n o → Old o)
   one-keeps k n o t r = (
-      region-zip {Q = λ q b. (q < m .size) × (m .at q ≡ settled b)} (λ q b out h. round-outside L (pl .at) (pl .bytes) k q b m n o t (h .0) out (h .1) r .0) (m .size) fs idle (on-board m (s .laid)),
-      λ cut. region-zip {Q = λ q b. (q < m .size) × (m .at q ≡ settled b)} (λ q b out h. round-outside L (pl .at) (pl .bytes) k q b m n o t (h .0) out (h .1) r .1 cut) (m .size) fs idle (on-board m (s .laid)),
-    )
+    region-zip {Q = λ q b. (q < m .size) × (m .at q ≡ settled b)} (λ q b out h. round-outside L (pl .at) (pl .bytes) k q b m n o t (h .0) out (h .1) r .0) (m .size) fs idle (on-board m (s .laid)),
+    λ cut. region-zip {Q = λ q b. (q < m .size) × (m .at q ≡ settled b)} (λ q b out h. round-outside L (pl .at) (pl .bytes) k q b m n o t (h .0) out (h .1) r .1 cut) (m .size) fs idle (on-board m (s .laid)),
+  )
     where
       idle : Region-laid (λ q b. Outside (pl .at) (length (pl .bytes)) q) (m .size) fs
       idle = region-idle (m .size) fs (after c fs) pl l
@@ -121,7 +121,7 @@ module _ (L : ℕ) (c : Change) (fs : List Located) (m : Meaning) (some : 0 < L)
     off-mark q ne low high = ne (omega arith)
 
     elsewhere : (j : ℕ) (o u : Meaning) (t : Option ℕ) → Ran L (take j two) n o
-      → (q b : ℕ) → q < m .size → (q ≡ pl .mark → ⊥) → n .at q ≡ settled b → (o .at q ≡ settled b) × (Cut t o u → u .at q ≡ settled b)
+        → (q b : ℕ) → q < m .size → (q ≡ pl .mark → ⊥) → n .at q ≡ settled b → (o .at q ≡ settled b) × (Cut t o u → u .at q ≡ settled b)
     elsewhere j o u t r q b lt ne e = round-outside L (pl .mark) (pl .byte ∷ []) j q b n o u t (subst (λ k. q < k) (sym sized) lt) (off-mark q ne) e r
 
     -- on u the places that no round-two store touches are settled as on n
@@ -131,25 +131,25 @@ module _ (L : ℕ) (c : Change) (fs : List Located) (m : Meaning) (some : 0 < L)
     becomes : (u : Meaning) → u .size ≡ m .size → Apart u → u .at (pl .mark) ≡ settled (pl .byte) → Finds u (after c fs)
     becomes u same apart e =
         settled-found u (after c fs)
-          (record {
-            stands = subst (λ k. Stands k (after c fs)) (sym same) (after-stands (m .size) c fs (s .stands) a);
-            laid =
-                subst (λ k. Region-laid (λ q b. u .at q ≡ settled b) k (after c fs)) (sym same)
-                (region-follows (m .size) fs (after c fs) pl l (λ q b. u .at q ≡ settled b)
-                (λ i lt. apart (pl .at + i) (getD (pl .bytes) i 0) (omega (arith, lt, l .room)) (λ e. mark-apart (m .size) fs (after c fs) pl l (omega arith) (omega arith)) (new i lt))
-                e
-                (region-zip {Q = λ q b. (q < m .size) × (n .at q ≡ settled b)} (λ q b x h ne. apart q b (h .0) ne (h .1)) (m .size) fs inside (on-board n old)));
-          })
+        (record {
+          stands = subst (λ k. Stands k (after c fs)) (sym same) (after-stands (m .size) c fs (s .stands) a);
+          laid =
+              subst (λ k. Region-laid (λ q b. u .at q ≡ settled b) k (after c fs)) (sym same)
+              (region-follows (m .size) fs (after c fs) pl l (λ q b. u .at q ≡ settled b)
+              (λ i lt. apart (pl .at + i) (getD (pl .bytes) i 0) (omega (arith, lt, l .room)) (λ e. mark-apart (m .size) fs (after c fs) pl l (omega arith) (omega arith)) (new i lt))
+              e
+              (region-zip {Q = λ q b. (q < m .size) × (n .at q ≡ settled b)} (λ q b x h ne. apart q b (h .0) ne (h .1)) (m .size) fs inside (on-board n old)));
+        })
 
     stays : (u : Meaning) → u .size ≡ m .size → Apart u → u .at (pl .mark) ≡ settled (l .old) → Finds u fs
     stays u same apart e =
         settled-found u fs
-          (record {
-            stands = subst (λ k. Stands k fs) (sym same) (s .stands);
-            laid =
-                subst (λ k. Region-laid (λ q b. u .at q ≡ settled b) k fs) (sym same)
-                (region-zip {Q = λ q b. (q < m .size) × (n .at q ≡ settled b)} (λ q b x h. ⊎-elim (λ at. at-mark q b at (h .1)) (λ ne. apart q b (h .0) ne (h .1)) (cases-eq q (pl .mark))) (m .size) fs inside (on-board n old));
-          })
+        (record {
+          stands = subst (λ k. Stands k fs) (sym same) (s .stands);
+          laid =
+              subst (λ k. Region-laid (λ q b. u .at q ≡ settled b) k fs) (sym same)
+              (region-zip {Q = λ q b. (q < m .size) × (n .at q ≡ settled b)} (λ q b x h. ⊎-elim (λ at. at-mark q b at (h .1)) (λ ne. apart q b (h .0) ne (h .1)) (cases-eq q (pl .mark))) (m .size) fs inside (on-board n old));
+        })
       where
         at-mark : (q b : ℕ) → q ≡ pl .mark → n .at q ≡ settled b → u .at q ≡ settled b
         at-mark q b at h =

@@ -121,9 +121,9 @@ pub frames-alone-count : Frames-alone-count
 frames-alone-count bs cs fs bytes long found same =
     let s = read-spelled bs fs bytes found in
     spelled-read cs fs
-      (record {
-        stands = subst (λ k. Stands k fs) (sym long) (s .stands);
-        laid =
-            subst (λ k. Region-laid (Found cs) k fs) (sym long)
-            (region-zip {P = Counts fs} (λ q b g h. ⊎-elim (λ past. absurd (omega (arith, g .0, past))) (λ x. ⊎-elim (λ idle. absurd (g .1 idle)) (λ e. e ∙ h) x) (same q)) (length bs) fs (region-count (length bs) fs (s .stands)) (s .laid));
-      })
+    (record {
+      stands = subst (λ k. Stands k fs) (sym long) (s .stands);
+      laid =
+          subst (λ k. Region-laid (Found cs) k fs) (sym long)
+          (region-zip {P = Counts fs} (λ q b g h. ⊎-elim (λ past. absurd (omega (arith, g .0, past))) (λ x. ⊎-elim (λ idle. absurd (g .1 idle)) (λ e. e ∙ h) x) (same q)) (length bs) fs (region-count (length bs) fs (s .stands)) (s .laid));
+    })

@@ -60,12 +60,12 @@ length-fresh size = length-append (spelled size-size size) (frame-bytes bottom t
 empty-found : (o : Meaning) → Size-allowed (o .size) → o .at version-at ≡ settled version → Laid (λ q b. o .at q ≡ settled b) size-at (fresh-bytes (o .size)) → Finds o (bottom ∷ [])
 empty-found o fits e h =
     settled-found o (bottom ∷ [])
-      (record {
-        stands = bottom-stands (o .size) fits;
-        laid =
-            region-written (λ q b. o .at q ≡ settled b) (o .size) (bottom ∷ []) [] (bottom-stands (o .size) fits)
-            (laid-join (λ q b. o .at q ≡ settled b) version-at size-at version (fresh-bytes (o .size)) refl e h);
-      })
+    (record {
+      stands = bottom-stands (o .size) fits;
+      laid =
+          region-written (λ q b. o .at q ≡ settled b) (o .size) (bottom ∷ []) [] (bottom-stands (o .size) fits)
+          (laid-join (λ q b. o .at q ≡ settled b) version-at size-at version (fresh-bytes (o .size)) refl e h);
+    })
 
 module _ (L : ℕ) (m : Meaning) (some : 0 < L) (fits : Size-allowed (m .size)) where
   first-inside : (n : Meaning) → n .size ≡ m .size → version-at < n .size
@@ -76,7 +76,7 @@ module _ (L : ℕ) (m : Meaning) (some : 0 < L) (fits : Size-allowed (m .size)) 
 
   -- a round of one byte at place 0 leaves the old byte or the new one
   version-cut : (k a b : ℕ) (n o u : Meaning) (t : Option ℕ) → n .size ≡ m .size → n .at version-at ≡ settled a → Ran L (take k (round L version-at (b ∷ []))) n o → Cut t o u
-    → (u .at version-at ≡ settled a) ⊎ (u .at version-at ≡ settled b)
+      → (u .at version-at ≡ settled a) ⊎ (u .at version-at ≡ settled b)
   version-cut k a b n o u t same e r cut = round-old-or-new L version-at (b ∷ []) k 0 a n o u t (omega arith) (first-inside n same) e r cut
 
   version-lasts : (b : ℕ) (n o : Meaning) → Ran L (round L version-at (b ∷ [])) n o → o .at version-at ≡ settled b
@@ -84,7 +84,7 @@ module _ (L : ℕ) (m : Meaning) (some : 0 < L) (fits : Size-allowed (m .size)) 
 
   -- and keeps what is settled elsewhere
   others-keep : (k b : ℕ) (n o u : Meaning) (t : Option ℕ) → Ran L (take k (round L version-at (b ∷ []))) n o
-    → (q a : ℕ) → q < n .size → (q ≡ version-at → ⊥) → n .at q ≡ settled a → (o .at q ≡ settled a) × (Cut t o u → u .at q ≡ settled a)
+      → (q a : ℕ) → q < n .size → (q ≡ version-at → ⊥) → n .at q ≡ settled a → (o .at q ≡ settled a) × (Cut t o u → u .at q ≡ settled a)
   others-keep k b n o u t r q a lt ne e = round-outside L version-at (b ∷ []) k q a n o u t lt (λ low high. ne (omega arith)) e r
 
   size-of : (k : ℕ) (ws : List Write) (n o u : Meaning) (t : Option ℕ) → n .size ≡ m .size → Ran L (take k ws) n o → Cut t o u → u .size ≡ m .size
@@ -104,7 +104,7 @@ module _ (L : ℕ) (m : Meaning) (some : 0 < L) (fits : Size-allowed (m .size)) 
 
   -- round two leaves place 0 alone
   two-keeps : (k : ℕ) (n o u : Meaning) (t : Option ℕ) → n .size ≡ m .size → n .at version-at ≡ settled 0 → Ran L (take k (fill L (m .size))) n o
-    → (o .at version-at ≡ settled 0) × (Cut t o u → u .at version-at ≡ settled 0)
+      → (o .at version-at ≡ settled 0) × (Cut t o u → u .at version-at ≡ settled 0)
   two-keeps k n o u t same e r = round-outside L size-at (fresh-bytes (m .size)) k version-at 0 n o u t (first-inside n same) (λ low high. omega arith) e r
 
   two-found : (k : ℕ) (n o u : Meaning) (t : Option ℕ) → n .size ≡ m .size → n .at version-at ≡ settled 0 → Ran L (take k (fill L (m .size))) n o → Cut t o u → Blank u

@@ -56,17 +56,19 @@ pub pad-within : (P : ℕ → Type 0) (q : ℕ) (a : Option Answer) (v : Progres
 pad-within P q None v h =
     (h q (omega arith) (omega arith), laid-within P (progress-place q) progress-size (v .value) (λ r l u. h r (omega arith) (omega arith)))
 pad-within P q (Some a) v h = (
-      h q (omega arith) (omega arith),
-      (laid-within P (answer-place q) answer-size (a .value) (λ r l u. h r (omega arith) (omega arith)),
-       laid-within P (progress-place q) progress-size (v .value) (λ r l u. h r (omega arith) (omega arith))),
-    )
+  h q (omega arith) (omega arith),
+  (
+    laid-within P (answer-place q) answer-size (a .value) (λ r l u. h r (omega arith) (omega arith)),
+    laid-within P (progress-place q) progress-size (v .value) (λ r l u. h r (omega arith) (omega arith)),
+  ),
+)
 
 -- a fact about each place of the parts of a frame but its idle pad
 pub frame-within : (P : ℕ → Type 0) (x : Located) (last : Bool)
-  → ((q : ℕ) → x .first ≤ q → q < args-place (x .first) + count x → P q)
-  → ((q : ℕ) → pad-place (x .first) (count x) (x .live) ≤ q → q < pad-place (x .first) (count x) (x .live) + pad-size → P q)
-  → P (marker-place (x .first) (count x))
-  → Frame-laid (λ q b. P q) x last
+    → ((q : ℕ) → x .first ≤ q → q < args-place (x .first) + count x → P q)
+    → ((q : ℕ) → pad-place (x .first) (count x) (x .live) ≤ q → q < pad-place (x .first) (count x) (x .live) + pad-size → P q)
+    → P (marker-place (x .first) (count x))
+    → Frame-laid (λ q b. P q) x last
 frame-within P x last head pad marker =
     record {
       count-bytes = laid-within P (x .first) count-size (count x) (λ q l u. head q (omega arith) (omega arith));

@@ -33,10 +33,10 @@ some-of true x y e = (refl, cc)
 some-of false x y e = let z : _≡_ {A = ℕ} 0 1 = cc in absurd (omega arith)
 
 pub head-found : (bs : List ℕ) (size i p n kind b : ℕ) (k : Marker) (c : PadContent) (h : FrameHead)
-  → length bs ≡ size → i < max-frames → n ≡ count-at bs p → kind ≡ kind-at bs p → leb (p + frame-size n) size ≡ true → kind-rule i kind n ≡ true
-  → b ≡ marker-at bs p → marker-of b ≡ Some k → pad-at bs (pad-place p n (k .live)) ≡ Some c
-  → h .first ≡ p → h .kind ≡ kind → h .count ≡ n → h .marker ≡ k → h .progress ≡ c .progress → h .answer ≡ c .answer
-  → Head-found bs i p h
+    → length bs ≡ size → i < max-frames → n ≡ count-at bs p → kind ≡ kind-at bs p → leb (p + frame-size n) size ≡ true → kind-rule i kind n ≡ true
+    → b ≡ marker-at bs p → marker-of b ≡ Some k → pad-at bs (pad-place p n (k .live)) ≡ Some c
+    → h .first ≡ p → h .kind ≡ kind → h .count ≡ n → h .marker ≡ k → h .progress ≡ c .progress → h .answer ≡ c .answer
+    → Head-found bs i p h
 head-found bs size i p n kind b k c h l few en ek room rule eb em ep hf hk hc hm hp ha =
     let m = some-of (ltb b markers) _ k em in
     let live : live-pad (marker-at bs p) ≡ k .live = ap live-pad (sym eb) ∙ ap (λ z. z .live) (m .1) in

@@ -35,7 +35,7 @@ fits-board p (b ∷ bs) size le = le
 
 -- a round on the board that was stopped has run out of power
 pub round-stopped : (L before p : ℕ) (bs : List ℕ) (m : Meaning) (s : Stopped) (n : Meaning) (e : StackFault) → p + length bs ≤ m .size → Cut-short L p bs m s n ⊎ Too-long p bs m s n → e ≡ with-count (s .fault) (before + s .carried)
-  → (k : ℕ) × Refusal 1 Board (before + k) e × Broken L (round L p bs) m k n
+    → (k : ℕ) × Refusal 1 Board (before + k) e × Broken L (round L p bs) m k n
 round-stopped L before p bs m s n e le (inl c) same = (s .carried, subst (Refusal 1 Board (before + s .carried)) (sym same) (power-fault (s .fault) (before + s .carried) (c .fault)), c .broken)
 round-stopped L before p bs m s n e le (inr c) same = absurd (c .outside (fits-board p bs (m .size) le))
 

@@ -50,9 +50,9 @@ deeper reach i p x fs gs pl w l =
       marked = λ P h. l .marked P (h .1);
       moves = l .moves;
       follows = λ P z m h. (
-          subst (Frame-laid P x) (l .tops) (frame-zip (λ q b g k. k (λ e. omega (arith, g .1, w .first, l .mark-low))) x (is-top fs) here (h .0)),
-          l .follows P z m (h .1),
-        );
+        subst (Frame-laid P x) (l .tops) (frame-zip (λ q b g k. k (λ e. omega (arith, g .1, w .first, l .mark-low))) x (is-top fs) here (h .0)),
+        l .follows P z m (h .1),
+      );
       row = (w, l .row);
       low = omega (arith, l .low);
       mark-low = omega (arith, l .mark-low);
@@ -68,7 +68,7 @@ turn-moves One false e = omega arith
 turn-moves One true e = omega arith
 
 turn-local : (reach i p : ℕ) (a : Option Answer) (v : Progress) (x : Located) (ts : List Located) → Answer-fits a → v .value < 256 ^ progress-size → In-row reach i p (x ∷ ts)
-  → Local reach i p (x ∷ ts) (turned a v x ∷ []) (turn a v x)
+    → Local reach i p (x ∷ ts) (turned a v x ∷ []) (turn a v x)
 turn-local reach i p a v x ts fits lt s =
     let d : Pad = other (x .live) in
     let f : ℕ = x .first in
@@ -76,34 +76,34 @@ turn-local reach i p a v x ts fits lt s =
     let upper = frames-inside reach (suc i) (p + frame-size n) ts (s .1) in
     record {
       idle = (
-          subst (λ k. Frame-laid (λ q b. Outside (pad-place f n d) k q) x (is-top ts)) (sym (length-pad a v)) (frame-idle x (is-top ts)),
-          frames-zip (λ q b g h low high. omega (arith, g .0, s .0 .first, pad-high f n d, length-pad a v)) ts upper upper,
-        );
+        subst (λ k. Frame-laid (λ q b. Outside (pad-place f n d) k q) x (is-top ts)) (sym (length-pad a v)) (frame-idle x (is-top ts)),
+        frames-zip (λ q b g h low high. omega (arith, g .0, s .0 .first, pad-high f n d, length-pad a v)) ts upper upper,
+      );
       old = marker-byte (x .live) (is-top ts);
       marked = λ P h. h .0 .marker;
       moves = turn-moves (x .live) (is-top ts);
       follows = λ P z m h. (
-          record {
-            count-bytes = λ j lt. h .0 .count-bytes j lt (λ e. omega (arith, lt, length-spelled count-size n));
-            kind = λ j lt. h .0 .kind j lt (λ e. omega (arith, lt, length-spelled kind-size (x .frame .kind)));
-            args = λ j lt. h .0 .args j lt (λ e. omega (arith, lt));
-            pad = pad-written P (pad-place f n d) a v z;
-            marker = m;
-          },
-          tt,
-        );
+        record {
+          count-bytes = λ j lt. h .0 .count-bytes j lt (λ e. omega (arith, lt, length-spelled count-size n));
+          kind = λ j lt. h .0 .kind j lt (λ e. omega (arith, lt, length-spelled kind-size (x .frame .kind)));
+          args = λ j lt. h .0 .args j lt (λ e. omega (arith, lt));
+          pad = pad-written P (pad-place f n d) a v z;
+          marker = m;
+        },
+        tt,
+      );
       row = (
-          record {
-            first = s .0 .first;
-            ends = s .0 .ends;
-            rule = s .0 .rule;
-            kind = s .0 .kind;
-            args = s .0 .args;
-            progress = lt;
-            answer = fits;
-          },
-          tt,
-        );
+        record {
+          first = s .0 .first;
+          ends = s .0 .ends;
+          rule = s .0 .rule;
+          kind = s .0 .kind;
+          args = s .0 .args;
+          progress = lt;
+          answer = fits;
+        },
+        tt,
+      );
       low = omega (arith, s .0 .first, pad-low f n d);
       mark-low = omega (arith, s .0 .first);
       room = omega (arith, s .0 .first, s .0 .ends, pad-high f n d, length-pad a v);
@@ -116,7 +116,7 @@ push-moves Zero e = omega arith
 push-moves One e = omega arith
 
 push-local : (reach i p kind : ℕ) (args : List ℕ) (x : Located) → 0 < kind → kind < 256 ^ kind-size → length args ≤ max-args → Bytes args → end x + frame-size (length args) ≤ reach → Well-placed reach i p x
-  → Local reach i p (x ∷ []) (x ∷ above kind args x ∷ []) (push kind args x)
+    → Local reach i p (x ∷ []) (x ∷ above kind args x ∷ []) (push kind args x)
 push-local reach i p kind args x some fits few bytes room w =
     let f : ℕ = x .first in
     let n : ℕ = count x in
@@ -129,18 +129,19 @@ push-local reach i p kind args x some fits few bytes room w =
       marked = λ P h. h .0 .marker;
       moves = push-moves (x .live);
       follows = λ P z m h. (
-          record {
-            count-bytes = λ j lt. h .0 .count-bytes j lt (λ e. omega (arith, lt, length-spelled count-size n));
-            kind = λ j lt. h .0 .kind j lt (λ e. omega (arith, lt, length-spelled kind-size (x .frame .kind)));
-            args = λ j lt. h .0 .args j lt (λ e. omega (arith, lt));
-            pad = pad-zip {P = λ q b. q < marker-place f n} {Q = λ q b. (q ≡ marker-place f n → ⊥) → P q b} {R = P} (λ q b g k. k (λ e. omega (arith, g, e))) live (x .frame .answer) (x .frame .progress) apart (h .0 .pad);
-            marker = m;
-          },
-          (frame-written P (above kind args x) true z, tt),
-        );
+        record {
+          count-bytes = λ j lt. h .0 .count-bytes j lt (λ e. omega (arith, lt, length-spelled count-size n));
+          kind = λ j lt. h .0 .kind j lt (λ e. omega (arith, lt, length-spelled kind-size (x .frame .kind)));
+          args = λ j lt. h .0 .args j lt (λ e. omega (arith, lt));
+          pad = pad-zip {P = λ q b. q < marker-place f n} {Q = λ q b. (q ≡ marker-place f n → ⊥) → P q b} {R = P} (λ q b g k. k (λ e. omega (arith, g, e))) live (x .frame .answer) (x .frame .progress) apart (h .0 .pad);
+          marker = m;
+        },
+        (frame-written P (above kind args x) true z, tt),
+      );
       row = (
-          w,
-          (record {
+        w,
+        (
+          record {
             first = ap (λ q. q + frame-size n) (w .first);
             ends = omega (arith, w .first, room);
             rule = and-from (ltb 0 kind) (leb (length args) max-args) (lt-ltb 0 kind some) (le-leb (length args) max-args few);
@@ -148,8 +149,10 @@ push-local reach i p kind args x some fits few bytes room w =
             args = bytes;
             progress = omega arith;
             answer = tt;
-          }, tt),
-        );
+          },
+          tt,
+        ),
+      );
       low = omega (arith, w .first);
       mark-low = omega (arith, w .first);
       room = omega (arith, room, length-frame (above kind args x) true);
@@ -171,7 +174,7 @@ abbrev giving : Answer → Located → Plan
 giving a x = turn (Some a) (x .frame .progress) x
 
 give-local : (reach i p : ℕ) (a : Answer) (fs : List Located) → above-bottom (plain fs) ≡ true → a .value < 256 ^ answer-size → In-row reach i p fs
-  → Local reach i p fs (with-top (given a) (without-top fs)) (at-top (giving a) (without-top fs))
+    → Local reach i p fs (with-top (given a) (without-top fs)) (at-top (giving a) (without-top fs))
 give-local reach i p a [] two lt s = absurd (false≢true two)
 give-local reach i p a (x ∷ []) two lt s = absurd (false≢true two)
 give-local reach i p a (x ∷ y ∷ []) two lt s = turn-local reach i p (Some a) (x .frame .progress) x (y ∷ []) lt (s .0 .progress) s

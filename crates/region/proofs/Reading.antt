@@ -37,7 +37,7 @@ number-found bs p k v h lt =
 
 -- one pad
 pub pad-found : (bs : List ℕ) (q : ℕ) (a : Option Answer) (v : Progress) → Answer-fits a → v .value < 256 ^ progress-size → Pad-laid (Found bs) q a v
-  → (leb (tag-at bs q) with-answer ≡ true) × (answer-at bs q ≡ a) × (progress-at bs q ≡ v)
+    → (leb (tag-at bs q) with-answer ≡ true) × (answer-at bs q ≡ a) × (progress-at bs q ≡ v)
 pad-found bs q None v fits lt h =
     let n = number-found bs (progress-place q) progress-size (v .value) (h .1) lt in (
       le-leb (tag-at bs q) with-answer (omega (arith, h .0)),
@@ -119,7 +119,7 @@ frames-found (suc k) reach bs i p (x ∷ y ∷ ys) some few all w h =
     let found = frame-found reach bs i p x false (omega arith) (w .0) (h .0) in
     let q : x .first + frame-size (count-at bs (x .first)) ≡ p + frame-size (count x) = omega (arith, w .0 .first, found .width) in
     let rest : frames-from k reach bs (suc i) (x .first + frame-size (count-at bs (x .first))) ≡ Ok (y ∷ ys) =
-        ap (frames-from k reach bs (suc i)) q ∙ frames-found k reach bs (suc i) (p + frame-size (count x)) (y ∷ ys) (omega arith) (omega arith) (omega arith) (w .1) (h .1) in
+    ap (frames-from k reach bs (suc i)) q ∙ frames-found k reach bs (suc i) (p + frame-size (count x)) (y ∷ ys) (omega arith) (omega arith) (omega arith) (w .1) (h .1) in
     subst (λ r. frames-from (suc k) reach bs i r ≡ Ok (x ∷ y ∷ ys)) (w .0 .first)
     (rw (found .sound, found .ends, found .same, rest))
 
@@ -174,8 +174,7 @@ frame-read reach bs i p h e =
     let c = and-parts (kind-rule i (kind-at bs p) (count-at bs p)) _ (b .1) in
     let d = and-parts (ltb (marker-at bs p) markers) _ (c .1) in
     let n : length (part bs (args-place p) (count-at bs p)) ≡ count-at bs p = length-part bs (args-place p) (count-at bs p) in
-    let pad = pad-laid bs (live-at bs p) h (leb-true (tag-at bs (live-at bs p)) with-answer (d .1)) in
-    (
+    let pad = pad-laid bs (live-at bs p) h (leb-true (tag-at bs (live-at bs p)) with-answer (d .1)) in (
       record {
         first = refl;
         ends = subst (λ k. p + frame-size k ≤ reach) (sym n) (leb-true (p + frame-size (count-at bs p)) reach (b .0));
@@ -206,7 +205,7 @@ row-one k reach bs i p h e l =
     record { some = omega arith; few = omega arith; row = (f .0, tt); laid = (subst (Frame-laid (Found bs) (frame-at bs p)) l (f .1), tt) }
 
 row-more : (k reach : ℕ) (bs : List ℕ) (i p : ℕ) (fs : List Located) → Bytes bs → undamaged reach bs i p ≡ true → is-last (marker-at bs p) ≡ false
-  → Row-read k reach bs (suc i) (p + frame-size (count-at bs p)) fs → Row-read (suc k) reach bs i p (frame-at bs p ∷ fs)
+    → Row-read k reach bs (suc i) (p + frame-size (count-at bs p)) fs → Row-read (suc k) reach bs i p (frame-at bs p ∷ fs)
 row-more k reach bs i p [] h e l r = absurd (omega (arith, r .some))
 row-more k reach bs i p (y ∷ ys) h e l r =
     let f = frame-read reach bs i p h e in

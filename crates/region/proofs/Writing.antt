@@ -72,14 +72,16 @@ pub length-frame : (x : Located) (last : Bool) → length (frame-bytes x last) �
 length-frame x last =
     let pads = both-pads (x .live) (pad-bytes (x .frame .answer) (x .frame .progress)) in
     let end = marker-byte (x .live) last ∷ [] in
-    omega (arith,
+    omega (
+      arith,
       length-append (spelled count-size (count x)) (spelled kind-size (x .frame .kind) ++ (x .frame .args ++ (pads ++ end))),
       length-append (spelled kind-size (x .frame .kind)) (x .frame .args ++ (pads ++ end)),
       length-append (x .frame .args) (pads ++ end),
       length-append pads end,
       length-spelled count-size (count x),
       length-spelled kind-size (x .frame .kind),
-      length-both (x .live) (x .frame .answer) (x .frame .progress))
+      length-both (x .live) (x .frame .answer) (x .frame .progress),
+    )
 
 pub frame-written : (P : ℕ → ℕ → Type 0) (x : Located) (last : Bool) → Laid P (x .first) (frame-bytes x last) → Frame-laid P x last
 frame-written P x last h =
@@ -109,7 +111,7 @@ frames-written P reach i p (x ∷ xs) rest w h =
     let whole : Laid P p (frame-bytes x (is-top xs) ++ (frames-bytes xs ++ rest)) = subst (Laid P p) (append-assoc (frame-bytes x (is-top xs)) (frames-bytes xs) rest) h in (
       frame-written P x (is-top xs) (subst (λ q. Laid P q (frame-bytes x (is-top xs))) (sym (w .0 .first)) (laid-left P p (frame-bytes x (is-top xs)) (frames-bytes xs) here)),
       frames-written P reach (suc i) (p + frame-size (count x)) xs rest (w .1)
-        (laid-right P p (p + frame-size (count x)) (frame-bytes x (is-top xs)) (frames-bytes xs ++ rest) (omega (arith, length-frame x (is-top xs))) whole),
+          (laid-right P p (p + frame-size (count x)) (frame-bytes x (is-top xs)) (frames-bytes xs ++ rest) (omega (arith, length-frame x (is-top xs))) whole),
     )
 
 pub region-written : (P : ℕ → ℕ → Type 0) (size : ℕ) (fs : List Located) (rest : List ℕ) → Stands size fs → Laid P 0 (region-bytes size fs rest) → Region-laid P size fs
@@ -126,7 +128,7 @@ pub read-back : (size : ℕ) (fs : List Located) (rest : List ℕ) → Stands si
 read-back size fs rest s l =
     let bs : List ℕ = region-bytes size fs rest in
     spelled-read bs fs
-      (record {
-        stands = subst (λ n. Stands n fs) (sym l) s;
-        laid = subst (λ n. Region-laid (Found bs) n fs) (sym l) (region-written (Found bs) size fs rest s (λ i lt. let e : 0 + i ≡ i = omega arith in ap (λ k. getD bs k 0) e));
-      })
+    (record {
+      stands = subst (λ n. Stands n fs) (sym l) s;
+      laid = subst (λ n. Region-laid (Found bs) n fs) (sym l) (region-written (Found bs) size fs rest s (λ i lt. let e : 0 + i ≡ i = omega arith in ap (λ k. getD bs k 0) e));
+    })

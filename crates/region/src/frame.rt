@@ -5,8 +5,8 @@ ghost use Rattle.region.specs.Layout.{args-place, pad-place, marker-place, fra
 use crate::layout::ARGS_AT;
 use crate::layout::BARE_FRAME;
 use crate::layout::Marker;
-use crate::layout::PADS_SIZE;
 use crate::layout::PAD_SIZE;
+use crate::layout::PADS_SIZE;
 use crate::layout::Pad;
 use plain::Answer;
 use plain::Progress;

@@ -1,5 +1,6 @@
 // The bytes of a region.
 ghost use Rattle.region.specs.Laws.{Region-laws};
+
 pub mod format;
 pub mod frame;
 pub mod layout;

@@ -173,11 +173,7 @@ fn head_at<B: Board>(board: &B, below: usize, first: usize) -> Option<FrameHead>
 
 // Reads the frame that starts at place `first`, above `below` others, but for its argument bytes, which are the `count` bytes from
 // `args_place` on. A damaged one is refused with 11 and its first place; what passes the board's end is not read.
-pub fn read_frame<B: Board>(
-    board: &B,
-    below: usize,
-    first: usize,
-) -> Result<FrameHead, StackFault>
+pub fn read_frame<B: Board>(board: &B, below: usize, first: usize) -> Result<FrameHead, StackFault>
     ensures { λ r. ⌜ Frame-read (bytes (meaning (now (board .entry)))) below first r ⌝ }
 {
     match head_at(board, below, first) {

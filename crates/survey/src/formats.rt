@@ -16,10 +16,49 @@ use std::io;
 
 // The region before the format, on a board of 128 places: a bottom frame whose pad 1 is live, with progress 7.
 const BEFORE: [u8; LEAST_SIZE] = [
-    1, 0, 0, 0, 128, // version, number of places
-    0, 0, 0, 0, // no arguments, kind 0
-    0, 0, 0, 0, 0, 0, 0, 0, 0, 0, 0, 0, 0, 0, 0, 0, 0, // pad 0
-    0, 0, 0, 0, 0, 0, 0, 0, 0, 0, 0, 0, 0, 0, 0, 0, 7, // pad 1
+    1,
+    0,
+    0,
+    0,
+    128, // version, number of places
+    0,
+    0,
+    0,
+    0, // no arguments, kind 0
+    0,
+    0,
+    0,
+    0,
+    0,
+    0,
+    0,
+    0,
+    0,
+    0,
+    0,
+    0,
+    0,
+    0,
+    0,
+    0,
+    0, // pad 0
+    0,
+    0,
+    0,
+    0,
+    0,
+    0,
+    0,
+    0,
+    0,
+    0,
+    0,
+    0,
+    0,
+    0,
+    0,
+    0,
+    7, // pad 1
     3, // marker
 ];
 

@@ -15,7 +15,7 @@ loop-i-again g c =
     let shown : ℕ → ℕ = λ k. getD (bytes m) (c .args .at + k) 0 in (
       length-set into i (c .byte-at .result) ∙ c .loop-i .inv .0,
       subst (λ b. (k : ℕ) → k < i + 1 → getD (set into i b) k 0 ≡ shown k) (sym (c .byte-at .ensures))
-      (fill-by-more shown into i 0 (omega (arith, c .loop-i .inv .0)) (c .loop-i .inv .1)),
+          (fill-by-more shown into i 0 (omega (arith, c .loop-i .inv .0)) (c .loop-i .inv .1)),
     )
 
 pub returns : need.returns
