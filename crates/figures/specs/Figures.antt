@@ -6,7 +6,7 @@ use lib.ListN.{length}
 use Rattle.plain.specs.declared.Answer.{Answer}
 use Rattle.plain.specs.declared.Progress.{Progress}
 use Rattle.plain.specs.Frames.{call, note, give}
-use Rattle.region.specs.Layout.{marker-byte}
+use Rattle.layout.specs.Layout.{marker-byte}
 use Rattle.region.specs.Frames.{Located, end, is-top}
 use Rattle.region.specs.Plans.{plan, writes, after, above, bottom, format-plan}
 

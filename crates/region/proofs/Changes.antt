@@ -17,7 +17,7 @@ use Rattle.model.proofs.Places.{length-bytes, byte-at, cut-supplies}
 use Rattle.model.proofs.Lists.{ran-size, ran-first, ran-second, ran-split}
 use Rattle.model.proofs.Rounds.{round-outside, round-old-or-new, round-lasts}
 use Rattle.plain.specs.Frames.{Change}
-use Rattle.region.specs.Layout.{size-at, size-size, frames-at}
+use Rattle.layout.specs.Layout.{size-at, size-size, frames-at}
 use Rattle.region.specs.Frames.{Located, Laid, Region-laid, Stands}
 use Rattle.region.specs.Reading.{Found, Spells}
 use Rattle.region.specs.Plans.{Plan, writes, plan, after, Allowed}

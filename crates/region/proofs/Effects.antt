@@ -11,7 +11,7 @@ use Rattle.std.specs.declared.result.Result.the-variants.{Ok}
 use Rattle.model.specs.Rounds.{overwritten}
 use Rattle.model.specs.Laws.{Outside}
 use Rattle.plain.specs.Frames.{Change}
-use Rattle.region.specs.Layout.{version-at, size-at, size-size, frames-at, pad-size, pad-place, frame-size, other}
+use Rattle.layout.specs.Layout.{version-at, size-at, size-size, frames-at, pad-size, pad-place, frame-size, other}
 use Rattle.region.specs.Frames.{Located, count, Laid, Frame-laid, is-top, Frames-laid, Region-laid, In-row, Stands}
 use Rattle.region.specs.Reading.{read, Found, Spells}
 use Rattle.region.specs.Writing.{pad-bytes}

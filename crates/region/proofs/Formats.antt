@@ -20,7 +20,7 @@ use Rattle.model.proofs.Places.{length-bytes, byte-at, cut-supplies}
 use Rattle.model.proofs.Lists.{ran-size, ran-first, ran-second, ran-split}
 use Rattle.model.proofs.Rounds.{round-outside, round-old-or-new, round-lasts}
 use Rattle.region.specs.Numbers.{spelled}
-use Rattle.region.specs.Layout.{version, version-at, size-at, size-size, frames-at, frame-size}
+use Rattle.layout.specs.Layout.{version, version-at, size-at, size-size, frames-at, frame-size}
 use Rattle.region.specs.Frames.{Located, Laid, Region-laid, Size-allowed, Stands}
 use Rattle.region.specs.Reading.{read}
 use Rattle.region.specs.Writing.{region-bytes, frame-bytes}

@@ -10,10 +10,10 @@ use Rattle.std.specs.declared.option.Option.the-variants.{Some, None}
 use Rattle.model.specs.Laws.{Outside}
 use Rattle.plain.specs.declared.Answer.{Answer}
 use Rattle.plain.specs.declared.Progress.{Progress}
-use Rattle.region.specs.declared.layout.Pad.{Pad}
-use Rattle.region.specs.declared.layout.Pad.the-variants.{Zero, One}
+use Rattle.layout.specs.declared.marker.Pad.{Pad}
+use Rattle.layout.specs.declared.marker.Pad.the-variants.{Zero, One}
 use Rattle.region.specs.Numbers.{spelled}
-use Rattle.region.specs.Layout.{size-at, size-size, frames-at, answer-size, progress-size, pad-size, count-size, kind-size, kind-place, args-place, pad-place, marker-place, answer-place, progress-place, frame-size, other}
+use Rattle.layout.specs.Layout.{size-at, size-size, frames-at, answer-size, progress-size, pad-size, count-size, kind-size, kind-place, args-place, pad-place, marker-place, answer-place, progress-place, frame-size, other}
 use Rattle.region.specs.Frames.{Located, count, end, Laid, Pad-laid, Frame-laid, is-top, Frames-laid, Region-laid, In-row, Stands}
 use Rattle.region.proofs.Numbers.{length-spelled}
 

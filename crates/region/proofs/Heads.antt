@@ -10,14 +10,14 @@ use lib.ListN.{length, getD}
 use Rattle.std.proofs.shelf.Tests.{and-from, and-left, and-right, leb-true, leb-false, lt-leb, lt-ltb}
 use Rattle.std.specs.declared.option.Option.{Option}
 use Rattle.std.specs.declared.option.Option.the-variants.{Some, None}
-use Rattle.region.specs.declared.frame.FrameHead.{FrameHead}
-use Rattle.region.specs.declared.layout.Marker.{Marker}
+use Rattle.region.specs.declared.read.FrameHead.{FrameHead}
+use Rattle.layout.specs.declared.marker.Marker.{Marker}
 use Rattle.region.specs.declared.read.PadContent.{PadContent}
 use Rattle.region.specs.Numbers.{part}
-use Rattle.region.specs.Layout.{max-frames, with-answer, args-place, pad-place, frame-size, markers}
+use Rattle.layout.specs.Layout.{max-frames, with-answer, args-place, pad-place, frame-size, markers, is-last, live-pad}
 use Rattle.region.specs.Frames.{kind-rule}
-use Rattle.region.specs.Reading.{count-at, kind-at, marker-at, is-last, live-pad, live-at, tag-at, answer-at, progress-at, undamaged, frame-at}
-use Rattle.region.specs.Markers.{marker-of}
+use Rattle.region.specs.Reading.{count-at, kind-at, marker-at, live-at, tag-at, answer-at, progress-at, undamaged, frame-at}
+use Rattle.layout.specs.Markers.{marker-of}
 use Rattle.region.specs.Answers.{pad-at, Heads, Head-found}
 use Rattle.region.proofs.Numbers.{length-part}
 
@@ -35,7 +35,7 @@ some-of false x y e = let z : _≡_ {A = ℕ} 0 1 = cc in absurd (omega arith)
 pub head-found : (bs : List ℕ) (size i p n kind b : ℕ) (k : Marker) (c : PadContent) (h : FrameHead)
     → length bs ≡ size → i < max-frames → n ≡ count-at bs p → kind ≡ kind-at bs p → leb (p + frame-size n) size ≡ true → kind-rule i kind n ≡ true
     → b ≡ marker-at bs p → marker-of b ≡ Some k → pad-at bs (pad-place p n (k .live)) ≡ Some c
-    → h .first ≡ p → h .kind ≡ kind → h .count ≡ n → h .marker ≡ k → h .progress ≡ c .progress → h .answer ≡ c .answer
+    → h .extent .first ≡ p → h .kind ≡ kind → h .extent .count ≡ n → h .marker ≡ k → h .progress ≡ c .progress → h .answer ≡ c .answer
     → Head-found bs i p h
 head-found bs size i p n kind b k c h l few en ek room rule eb em ep hf hk hc hm hp ha =
     let m = some-of (ltb b markers) _ k em in

@@ -20,7 +20,7 @@ use Rattle.model.proofs.Rounds.{round-short}
 use Rattle.board.specs.declared.rounds.Stopped.{Stopped}
 use Rattle.board.specs.Rounds.{On-board, Fits, Whole, Cut-short, Too-long}
 use Rattle.region.specs.Frames.{Size-allowed}
-use Rattle.region.specs.Layout.{version-at, size-at, size-size, frame-size}
+use Rattle.layout.specs.Layout.{version-at, size-at, size-size, frame-size}
 use Rattle.region.specs.Plans.{blank, fresh-bytes, fill, finish, format-plan}
 use Rattle.region.specs.Operations.{with-count, Counted, Formatted, Format-stopped, Format-carried}
 use Rattle.region.proofs.Formats.{length-fresh, format-cut, format-lasts}

@@ -13,10 +13,10 @@ use Rattle.model.specs.Laws.{Outside}
 use Rattle.plain.specs.Frames.{Frame, noted, answered, called, with-top, without-top, above-bottom, Change, call, note, give, does}
 use Rattle.plain.specs.declared.Answer.{Answer}
 use Rattle.plain.specs.declared.Progress.{Progress}
-use Rattle.region.specs.declared.layout.Pad.{Pad}
-use Rattle.region.specs.declared.layout.Pad.the-variants.{Zero, One}
+use Rattle.layout.specs.declared.marker.Pad.{Pad}
+use Rattle.layout.specs.declared.marker.Pad.the-variants.{Zero, One}
 use Rattle.region.specs.Numbers.{spelled, Bytes}
-use Rattle.region.specs.Layout.{max-frames, max-args, version-at, size-at, size-size, frames-at, answer-size, progress-size, pad-size, count-size, kind-size, kind-place, args-place, pad-place, marker-place, frame-size, marker-byte, other}
+use Rattle.layout.specs.Layout.{max-frames, max-args, version-at, size-at, size-size, frames-at, answer-size, progress-size, pad-size, count-size, kind-size, kind-place, args-place, pad-place, marker-place, frame-size, marker-byte, other}
 use Rattle.region.specs.Frames.{Located, count, end, plain, Laid, Pad-laid, Frame-laid, is-top, Frames-laid, Region-laid, kind-rule, Answer-fits, Well-placed, In-row, Stands}
 use Rattle.region.specs.Writing.{pad-bytes, frame-bytes}
 use Rattle.region.specs.Plans.{Plan, turn, turned, above, push, at-top, plan, extended, after, stack-end, May-call, Allowed}

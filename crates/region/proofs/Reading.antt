@@ -17,12 +17,12 @@ use Rattle.model.specs.declared.faults.StackFault.{StackFault}
 use Rattle.model.specs.declared.faults.StackFault.the-variants.{BoardSize, Version, StoredSize, Damaged}
 use Rattle.plain.specs.declared.Answer.{Answer}
 use Rattle.plain.specs.declared.Progress.{Progress}
-use Rattle.region.specs.declared.layout.Pad.{Pad}
-use Rattle.region.specs.declared.layout.Pad.the-variants.{Zero, One}
+use Rattle.layout.specs.declared.marker.Pad.{Pad}
+use Rattle.layout.specs.declared.marker.Pad.the-variants.{Zero, One}
 use Rattle.region.specs.Numbers.{number, spelled, part, Bytes}
-use Rattle.region.specs.Layout.{least-size, greatest-size, max-frames, max-args, version, version-at, size-at, size-size, frames-at, with-answer, answer-size, progress-size, answer-place, progress-place, count-size, kind-size, kind-place, args-place, pad-place, marker-place, frame-size, marker-byte, markers}
+use Rattle.layout.specs.Layout.{least-size, greatest-size, max-frames, max-args, version, version-at, size-at, size-size, frames-at, with-answer, answer-size, progress-size, answer-place, progress-place, count-size, kind-size, kind-place, args-place, pad-place, marker-place, frame-size, marker-byte, markers, is-last, live-pad}
 use Rattle.region.specs.Frames.{Located, count, Laid, Pad-laid, Frame-laid, is-top, Frames-laid, Region-laid, kind-rule, Answer-fits, Well-placed, In-row, Stands}
-use Rattle.region.specs.Reading.{count-at, kind-at, marker-at, is-last, live-pad, live-at, tag-at, answer-at, progress-at, undamaged, frame-at, before, frames-from, read, Found, Spells}
+use Rattle.region.specs.Reading.{count-at, kind-at, marker-at, live-at, tag-at, answer-at, progress-at, undamaged, frame-at, before, frames-from, read, Found, Spells}
 use Rattle.region.proofs.Numbers.{length-spelled, number-spelled, number-below, spelled-number, length-part, getD-part, bytes-part}
 
 -- bytes that lie in the region are read

@@ -11,10 +11,10 @@ use Rattle.std.specs.declared.option.Option.the-variants.{Some, None}
 use Rattle.std.specs.declared.result.Result.the-variants.{Ok}
 use Rattle.plain.specs.declared.Answer.{Answer}
 use Rattle.plain.specs.declared.Progress.{Progress}
-use Rattle.region.specs.declared.layout.Pad.{Pad}
-use Rattle.region.specs.declared.layout.Pad.the-variants.{Zero, One}
+use Rattle.layout.specs.declared.marker.Pad.{Pad}
+use Rattle.layout.specs.declared.marker.Pad.the-variants.{Zero, One}
 use Rattle.region.specs.Numbers.{spelled}
-use Rattle.region.specs.Layout.{version, version-at, size-at, size-size, frames-at, answer-size, progress-size, answer-place, progress-place, pad-size, count-size, kind-size, kind-place, args-place, pad-place, marker-place, frame-size, marker-byte}
+use Rattle.layout.specs.Layout.{version, version-at, size-at, size-size, frames-at, answer-size, progress-size, answer-place, progress-place, pad-size, count-size, kind-size, kind-place, args-place, pad-place, marker-place, frame-size, marker-byte}
 use Rattle.region.specs.Frames.{Located, count, Laid, Pad-laid, Frame-laid, is-top, Frames-laid, Region-laid, In-row, Stands}
 use Rattle.region.specs.Writing.{tag, answer-number, pad-bytes, zero-pad, both-pads, frame-bytes, frames-bytes, region-bytes}
 use Rattle.region.proofs.Numbers.{length-spelled}

@@ -15,11 +15,11 @@ use Rattle.model.specs.declared.faults.Layer.the-variants.{Stack}
 use Rattle.model.specs.Faults.{Fault, Refusal}
 use Rattle.model.specs.Writes.{Meaning, bytes}
 use Rattle.region.specs.declared.read.PadContent.{PadContent}
-use Rattle.region.specs.declared.frame.FrameHead.{FrameHead}
+use Rattle.region.specs.declared.read.FrameHead.{FrameHead}
 use Rattle.region.specs.Numbers.{part}
-use Rattle.region.specs.Layout.{with-answer}
+use Rattle.layout.specs.Layout.{with-answer, is-last}
 use Rattle.region.specs.Frames.{Located}
-use Rattle.region.specs.Reading.{marker-at, is-last, tag-at, answer-at, progress-at, undamaged, frame-at}
+use Rattle.region.specs.Reading.{marker-at, tag-at, answer-at, progress-at, undamaged, frame-at}
 
 -- the bytes from place p on, in the place of xs; or 2 with the first place outside, and xs stays
 abbrev pub Bytes-read : ℕ → List ℕ → Meaning → Result (Unit {0}) BoardFault → List ℕ → Type 0
@@ -33,9 +33,9 @@ pad-at bs q = cond (leb (tag-at bs q) with-answer) (Some (record { answer = answ
 
 -- h is frame x but for its argument bytes; last: the stack ends here
 pub record Heads (h : FrameHead) (x : Located) (last : Bool) : Type 0 where
-  pub first : h .first ≡ x .first
+  pub first : h .extent .first ≡ x .first
   pub kind : h .kind ≡ x .frame .kind
-  pub count : h .count ≡ length (x .frame .args)
+  pub count : h .extent .count ≡ length (x .frame .args)
   pub live : h .marker .live ≡ x .live
   pub last-frame : h .marker .last ≡ last
   pub progress : h .progress ≡ x .frame .progress

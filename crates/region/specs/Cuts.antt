@@ -8,7 +8,7 @@ use Rattle.std.specs.declared.result.Result.the-variants.{Ok, Err}
 use Rattle.model.specs.declared.faults.StackFault.the-variants.{Version}
 use Rattle.model.specs.Places.{settled, present}
 use Rattle.model.specs.Writes.{Meaning, bytes}
-use Rattle.region.specs.Layout.{version-at}
+use Rattle.layout.specs.Layout.{version-at}
 use Rattle.region.specs.Frames.{Located, Region-laid, Stands}
 use Rattle.region.specs.Reading.{read}
 use Rattle.region.specs.Plans.{Plan, bottom, blank, fill}

@@ -1,8 +1,6 @@
 pub mod Numbers
-pub mod Layout
 pub mod Frames
 pub mod Reading
-pub mod Markers
 pub mod Writing
 pub mod Plans
 pub mod Cuts

@@ -15,7 +15,7 @@ use Rattle.model.specs.declared.faults.Layer.the-variants.{Board, Stack}
 use Rattle.model.specs.Faults.{Refusal}
 use Rattle.model.specs.Places.{settled}
 use Rattle.model.specs.Writes.{Meaning, Write, Cut, Ran, Broken}
-use Rattle.region.specs.Layout.{version-at}
+use Rattle.layout.specs.Layout.{version-at}
 use Rattle.region.specs.Frames.{Size-allowed}
 use Rattle.region.specs.Plans.{bottom, format-plan}
 use Rattle.region.specs.Cuts.{Finds, Format-found}

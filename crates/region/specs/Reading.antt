@@ -13,10 +13,10 @@ use Rattle.model.specs.declared.faults.StackFault.{StackFault}
 use Rattle.model.specs.declared.faults.StackFault.the-variants.{BoardSize, Version, StoredSize, Damaged}
 use Rattle.plain.specs.declared.Answer.{Answer}
 use Rattle.plain.specs.declared.Progress.{Progress}
-use Rattle.region.specs.declared.layout.Pad.{Pad}
-use Rattle.region.specs.declared.layout.Pad.the-variants.{Zero, One}
+use Rattle.layout.specs.declared.marker.Pad.{Pad}
+use Rattle.layout.specs.declared.marker.Pad.the-variants.{Zero, One}
 use Rattle.region.specs.Numbers.{number, part}
-use Rattle.region.specs.Layout.{least-size, greatest-size, max-frames, version, version-at, size-at, size-size, frames-at, with-answer, answer-size, progress-size, answer-place, progress-place, count-size, kind-size, kind-place, args-place, pad-place, marker-place, frame-size, markers}
+use Rattle.layout.specs.Layout.{least-size, greatest-size, max-frames, version, version-at, size-at, size-size, frames-at, with-answer, answer-size, progress-size, answer-place, progress-place, count-size, kind-size, kind-place, args-place, pad-place, marker-place, frame-size, markers, is-last, live-pad}
 use Rattle.region.specs.Frames.{Located, kind-rule, Region-laid, Stands}
 
 -- what stands in the frame that starts at place p
@@ -28,14 +28,6 @@ kind-at bs p = number (part bs (kind-place p) kind-size)
 
 abbrev pub marker-at : List ℕ → ℕ → ℕ
 marker-at bs p = getD bs (marker-place p (count-at bs p)) 0
-
--- bit 0 of a marker
-abbrev pub is-last : ℕ → Bool
-is-last marker = eqb (marker % 2) 1
-
--- bit 1 of a marker
-abbrev pub live-pad : ℕ → Pad
-live-pad marker = cond (ltb marker 2) Zero One
 
 abbrev pub live-at : List ℕ → ℕ → ℕ
 live-at bs p = pad-place p (count-at bs p) (live-pad (marker-at bs p))

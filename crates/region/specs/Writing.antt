@@ -7,10 +7,10 @@ use Rattle.std.specs.declared.option.Option.the-variants.{Some, None}
 use Rattle.plain.specs.Frames.{fresh}
 use Rattle.plain.specs.declared.Answer.{Answer}
 use Rattle.plain.specs.declared.Progress.{Progress}
-use Rattle.region.specs.declared.layout.Pad.{Pad}
-use Rattle.region.specs.declared.layout.Pad.the-variants.{Zero, One}
+use Rattle.layout.specs.declared.marker.Pad.{Pad}
+use Rattle.layout.specs.declared.marker.Pad.the-variants.{Zero, One}
 use Rattle.region.specs.Numbers.{spelled}
-use Rattle.region.specs.Layout.{version, size-size, no-answer, with-answer, answer-size, progress-size, count-size, kind-size, marker-byte}
+use Rattle.layout.specs.Layout.{version, size-size, no-answer, with-answer, answer-size, progress-size, count-size, kind-size, marker-byte}
 use Rattle.region.specs.Frames.{Located, count, is-top}
 
 abbrev pub tag : Option Answer → ℕ

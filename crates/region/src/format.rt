@@ -1,9 +1,9 @@
 // Makes a region an empty stack.
 ghost use Rattle.region.specs.Frames.{Size-allowed};
 ghost use Rattle.region.specs.Operations.{Format-answered, Format-carried};
-use crate::layout::SIZE_AT;
-use crate::layout::VERSION;
-use crate::layout::VERSION_AT;
+use layout::SIZE_AT;
+use layout::VERSION;
+use layout::VERSION_AT;
 use crate::read::is_allowed;
 use crate::rounds::next_round;
 use crate::write::fresh_bytes;

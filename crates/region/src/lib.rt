@@ -2,8 +2,6 @@
 ghost use Rattle.region.specs.Laws.{Region-laws};
 
 pub mod format;
-pub mod frame;
-pub mod layout;
 pub mod read;
 mod rounds;
 pub mod stretch;

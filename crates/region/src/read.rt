@@ -6,28 +6,25 @@ ghost use lib.Dec.{leb};
 ghost use lib.ListN.{length, getD};
 ghost use Rattle.model.specs.Writes.{bytes};
 ghost use Rattle.region.specs.Numbers.{number, part};
-ghost use Rattle.region.specs.Layout.{least-size, greatest-size, pad-size, frame-size};
+ghost use Rattle.layout.specs.Layout.{least-size, greatest-size, pad-size, frame-size};
 ghost use Rattle.region.specs.Frames.{kind-rule, Size-allowed};
 ghost use Rattle.region.specs.Reading.{has-version, has-size, header};
 ghost use Rattle.region.specs.Answers.{Bytes-read, pad-at, Head-read, Frame-read};
-use crate::frame::FrameHead;
-use crate::frame::pad_place;
-use crate::layout::ANSWER_SIZE;
-use crate::layout::ARGS_AT;
-use crate::layout::BARE_FRAME;
-use crate::layout::COUNT_SIZE;
-use crate::layout::GREATEST_SIZE;
-use crate::layout::LEAST_SIZE;
-use crate::layout::MAX_ARGS;
-use crate::layout::MAX_FRAMES;
-use crate::layout::Marker;
-use crate::layout::NO_ANSWER;
-use crate::layout::PADS_SIZE;
-use crate::layout::SIZE_AT;
-use crate::layout::TAG_SIZE;
-use crate::layout::VERSION;
-use crate::layout::VERSION_AT;
-use crate::layout::WITH_ANSWER;
+use layout::ANSWER_SIZE;
+use layout::BARE_FRAME;
+use layout::COUNT_SIZE;
+use layout::GREATEST_SIZE;
+use layout::LEAST_SIZE;
+use layout::MAX_ARGS;
+use layout::MAX_FRAMES;
+use layout::extent::Extent;
+use layout::marker::Marker;
+use layout::NO_ANSWER;
+use layout::SIZE_AT;
+use layout::TAG_SIZE;
+use layout::VERSION;
+use layout::VERSION_AT;
+use layout::WITH_ANSWER;
 use board::Board;
 use model::faults::BoardFault;
 use model::faults::StackFault;
@@ -121,6 +118,16 @@ fn read_pad<B: Board>(board: &B, at: usize) -> Option<PadContent>
     Some(PadContent { answer, progress })
 }
 
+// A frame but for its argument bytes: where it lies, its kind, its marker, and what its live pad holds.
+#[derive(Clone, Copy)]
+pub struct FrameHead {
+    pub extent: Extent,
+    pub kind: u16,
+    pub marker: Marker,
+    pub progress: Progress,
+    pub answer: Option<Answer>,
+}
+
 // Whether a frame with so many argument bytes ends on a board of that size.
 fn fits(size: usize, first: usize, count: usize) -> bool
     requires { ⌜ count < 65536 ⌝ }
@@ -159,12 +166,12 @@ fn head_at<B: Board>(board: &B, below: usize, first: usize) -> Option<FrameHead>
     if !keeps_kind_rule(below, kind, count) {
         return None;
     }
-    let marker = Marker::of(byte_at(board, first + ARGS_AT + count + PADS_SIZE))?;
-    let pad = read_pad(board, pad_place(first, count, marker.live))?;
+    let extent = Extent { first, count };
+    let marker = Marker::of(byte_at(board, extent.marker_place()))?;
+    let pad = read_pad(board, extent.pad_place(marker.live))?;
     Some(FrameHead {
-        first,
+        extent,
         kind,
-        count,
         marker,
         progress: pad.progress,
         answer: pad.answer,
@@ -172,7 +179,7 @@ fn head_at<B: Board>(board: &B, below: usize, first: usize) -> Option<FrameHead>
 }
 
 // Reads the frame that starts at place `first`, above `below` others, but for its argument bytes, which are the `count` bytes from
-// `args_place` on. A damaged one is refused with 11 and its first place; what passes the board's end is not read.
+// its `args_place` on. A damaged one is refused with 11 and its first place; what passes the board's end is not read.
 pub fn read_frame<B: Board>(board: &B, below: usize, first: usize) -> Result<FrameHead, StackFault>
     ensures { λ r. ⌜ Frame-read (bytes (meaning (now (board .entry)))) below first r ⌝ }
 {

@@ -2,8 +2,8 @@
 ghost use mathlib.Core.Path.{_≡_};
 ghost use Prim.Native.Nat.{_≤_};
 ghost use lib.ListN.{length};
-ghost use Rattle.region.specs.Layout.{max-frame};
-use crate::layout::MAX_FRAME;
+ghost use Rattle.layout.specs.Layout.{max-frame};
+use layout::MAX_FRAME;
 
 #[derive(Drop)]
 pub struct Stretch {

@@ -32,7 +32,7 @@ fn frame(mut bytes: [u8; SIZE], size: usize, below: usize, first: usize) -> (u64
         below,
         first,
     ) {
-        Ok(head) => (0, head.end() as u64),
+        Ok(head) => (0, head.extent.end() as u64),
         Err(fault) => told(fault),
     }
 }
@@ -75,7 +75,7 @@ fn long_frame(most: bool) -> (u64, u64) {
         bytes[338] = 1;
     }
     match read_frame(&ThroughBoard::over(&mut bytes), 1, 44) {
-        Ok(head) => (0, head.end() as u64),
+        Ok(head) => (0, head.extent.end() as u64),
         Err(fault) => told(fault),
     }
 }

@@ -27,8 +27,8 @@ fn write<B: Board>(board: &mut B, at: usize, bytes: &[u8]) {
 fn call<B: Board>(board: &mut B, below: usize, first: usize, kind: u16, args: &[u8]) {
     if let Ok(top) = read_frame(board, below, first) {
         if let Ok(frame) = frame_bytes(kind, args) {
-            write(board, top.end(), frame.as_slice());
-            write(board, top.marker_place(), &[top.marker.called().byte()]);
+            write(board, top.extent.end(), frame.as_slice());
+            write(board, top.extent.marker_place(), &[top.marker.called().byte()]);
         }
     }
 }
@@ -37,8 +37,8 @@ fn call<B: Board>(board: &mut B, below: usize, first: usize, kind: u16, args: &[
 fn note<B: Board>(board: &mut B, below: usize, first: usize, progress: Progress) {
     if let Ok(top) = read_frame(board, below, first) {
         let pad = pad_bytes(None, progress);
-        write(board, top.idle_pad_place(), pad.as_slice());
-        write(board, top.marker_place(), &[top.marker.noted().byte()]);
+        write(board, top.extent.pad_place(top.marker.live.other()), pad.as_slice());
+        write(board, top.extent.marker_place(), &[top.marker.noted().byte()]);
     }
 }
 
@@ -46,8 +46,8 @@ fn note<B: Board>(board: &mut B, below: usize, first: usize, progress: Progress)
 fn give<B: Board>(board: &mut B, below: usize, first: usize, answer: Answer) {
     if let Ok(under) = read_frame(board, below, first) {
         let pad = pad_bytes(Some(answer), under.progress);
-        write(board, under.idle_pad_place(), pad.as_slice());
-        write(board, under.marker_place(), &[under.marker.given().byte()]);
+        write(board, under.extent.pad_place(under.marker.live.other()), pad.as_slice());
+        write(board, under.extent.marker_place(), &[under.marker.given().byte()]);
     }
 }
 
@@ -65,7 +65,7 @@ fn told<B: Board>(board: &B, below: usize, first: usize) -> ([u64; 4], bool) {
         Ok(head) => (
             [
                 u64::from(head.kind),
-                head.count as u64,
+                head.extent.count as u64,
                 head.progress.value,
                 number(head.answer),
             ],

@@ -16,7 +16,7 @@ use Rattle.model.specs.Writes.{Meaning, bytes, Cut, Ran}
 use Rattle.model.proofs.Places.{byte-at, cut-supplies}
 use Rattle.model.proofs.Lists.{ran-size}
 use Rattle.region.specs.Numbers.{part}
-use Rattle.region.specs.Layout.{version-at, least-size}
+use Rattle.layout.specs.Layout.{version-at, least-size}
 use Rattle.region.specs.Frames.{Size-allowed}
 use Rattle.region.specs.Plans.{bottom, blank, fill, format-plan}
 use Rattle.region.specs.Cuts.{Finds, As-before, Format-found, Blank as Found-blank}

@@ -7,8 +7,8 @@ use Rattle.std.specs.declared.option.Option.{Option}
 use Rattle.std.specs.declared.option.Option.the-variants.{None}
 use Rattle.model.specs.Places.{settled}
 use Rattle.model.specs.Writes.{Meaning, Cut, Ran}
-use Rattle.region.specs.declared.layout.Pad.the-variants.{One}
-use Rattle.region.specs.Layout.{least-size, frames-at}
+use Rattle.layout.specs.declared.marker.Pad.the-variants.{One}
+use Rattle.layout.specs.Layout.{least-size, frames-at}
 use Rattle.region.specs.Frames.{Located, Size-allowed}
 use Rattle.region.specs.Writing.{region-bytes}
 use Rattle.region.specs.Plans.{bottom, format-plan}

@@ -3,14 +3,14 @@ ghost use mathlib.Core.Path.{_≡_};
 ghost use Prim.Native.Nat.{_≤_};
 ghost use Rattle.std.specs.declared.option.Option.the-variants.{Some, None};
 ghost use Rattle.model.specs.Writes.{bytes, Cut};
-ghost use Rattle.region.specs.Layout.{least-size};
+ghost use Rattle.layout.specs.Layout.{least-size};
 ghost use Rattle.region.specs.Frames.{Size-allowed};
 ghost use Rattle.region.specs.Numbers.{part};
 ghost use Rattle.survey.specs.Formats.{Classed, Stopped-format, Format-shown};
 use crate::record::prepare;
 use board::Board;
 use region::format::format;
-use region::layout::LEAST_SIZE;
+use layout::LEAST_SIZE;
 use region::read::read_bytes;
 use std::io;
 

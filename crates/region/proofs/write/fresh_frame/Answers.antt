@@ -3,7 +3,7 @@ use mathlib.Core.List.{[], _∷_}
 use denote.Ref.{now}
 use lib.ListN.{length}
 use Rattle.region.specs.Numbers.{spelled}
-use Rattle.region.specs.Layout.{count-size, kind-size}
+use Rattle.layout.specs.Layout.{count-size, kind-size}
 use Rattle.region.specs.Writing.{zero-pad}
 use Rattle.region.proofs.Pieces.{grown, frame-pieces}
 use Rattle.region.proofs.write.fresh_frame.Needs as need

@@ -1,8 +1,9 @@
 -- The region's numbers and places. Every length and offset has its name here.
-use mathlib.Core.Bool.{Bool, true, false}
-use Prim.Native.Nat.{ℕ, _+_}
-use Rattle.region.specs.declared.layout.Pad.{Pad}
-use Rattle.region.specs.declared.layout.Pad.the-variants.{Zero, One}
+use mathlib.Core.Bool.{Bool, true, false, cond}
+use Prim.Native.Nat.{ℕ, _+_, _%_}
+use lib.Dec.{eqb, ltb}
+use Rattle.layout.specs.declared.marker.Pad.{Pad}
+use Rattle.layout.specs.declared.marker.Pad.the-variants.{Zero, One}
 
 -- a region has from least-size to greatest-size places
 abbrev pub least-size : ℕ
@@ -109,3 +110,11 @@ markers = 4
 abbrev pub other : Pad → Pad
 other Zero = One
 other One = Zero
+
+-- bit 0 of a marker
+abbrev pub is-last : ℕ → Bool
+is-last marker = eqb (marker % 2) 1
+
+-- bit 1 of a marker
+abbrev pub live-pad : ℕ → Pad
+live-pad marker = cond (ltb marker 2) Zero One
