@@ -4,8 +4,8 @@ ghost use Prim.Native.Nat.{_+_, _^_, _<_};
 ghost use Rattle.layout.specs.Layout.{args-place, pad-place, marker-place, frame-size};
 use crate::ARGS_AT;
 use crate::BARE_FRAME;
-use crate::PADS_SIZE;
 use crate::PAD_SIZE;
+use crate::PADS_SIZE;
 use crate::marker::Pad;
 
 // A frame's first place and the number of its argument bytes, which say where each of its parts lies.

@@ -1,14 +1,14 @@
 // Makes a region an empty stack.
 ghost use Rattle.region.specs.Frames.{Size-allowed};
 ghost use Rattle.region.specs.Operations.{Format-answered, Format-carried};
-use layout::SIZE_AT;
-use layout::VERSION;
-use layout::VERSION_AT;
 use crate::read::is_allowed;
 use crate::rounds::next_round;
 use crate::write::fresh_bytes;
 use board::Board;
 use board::Slip;
+use layout::SIZE_AT;
+use layout::VERSION;
+use layout::VERSION_AT;
 use model::faults::StackFault;
 
 // The three rounds: the region is blank, then its size and its bottom frame are written, and then it has its version.

@@ -1,8 +1,8 @@
 // The bytes of pads, of new frames and of markers.
-use plain::Answer;
-use plain::Progress;
 use layout::marker::Marker;
 use layout::marker::Pad;
+use plain::Answer;
+use plain::Progress;
 use region::write::frame_bytes;
 use region::write::pad_bytes;
 use std::test::*;

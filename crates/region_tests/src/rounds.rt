@@ -28,7 +28,11 @@ fn call<B: Board>(board: &mut B, below: usize, first: usize, kind: u16, args: &[
     if let Ok(top) = read_frame(board, below, first) {
         if let Ok(frame) = frame_bytes(kind, args) {
             write(board, top.extent.end(), frame.as_slice());
-            write(board, top.extent.marker_place(), &[top.marker.called().byte()]);
+            write(
+                board,
+                top.extent.marker_place(),
+                &[top.marker.called().byte()],
+            );
         }
     }
 }
@@ -37,8 +41,16 @@ fn call<B: Board>(board: &mut B, below: usize, first: usize, kind: u16, args: &[
 fn note<B: Board>(board: &mut B, below: usize, first: usize, progress: Progress) {
     if let Ok(top) = read_frame(board, below, first) {
         let pad = pad_bytes(None, progress);
-        write(board, top.extent.pad_place(top.marker.live.other()), pad.as_slice());
-        write(board, top.extent.marker_place(), &[top.marker.noted().byte()]);
+        write(
+            board,
+            top.extent.pad_place(top.marker.live.other()),
+            pad.as_slice(),
+        );
+        write(
+            board,
+            top.extent.marker_place(),
+            &[top.marker.noted().byte()],
+        );
     }
 }
 
@@ -46,8 +58,16 @@ fn note<B: Board>(board: &mut B, below: usize, first: usize, progress: Progress)
 fn give<B: Board>(board: &mut B, below: usize, first: usize, answer: Answer) {
     if let Ok(under) = read_frame(board, below, first) {
         let pad = pad_bytes(Some(answer), under.progress);
-        write(board, under.extent.pad_place(under.marker.live.other()), pad.as_slice());
-        write(board, under.extent.marker_place(), &[under.marker.given().byte()]);
+        write(
+            board,
+            under.extent.pad_place(under.marker.live.other()),
+            pad.as_slice(),
+        );
+        write(
+            board,
+            under.extent.marker_place(),
+            &[under.marker.given().byte()],
+        );
     }
 }
 

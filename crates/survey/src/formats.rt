@@ -9,8 +9,8 @@ ghost use Rattle.region.specs.Numbers.{part};
 ghost use Rattle.survey.specs.Formats.{Classed, Stopped-format, Format-shown};
 use crate::record::prepare;
 use board::Board;
-use region::format::format;
 use layout::LEAST_SIZE;
+use region::format::format;
 use region::read::read_bytes;
 use std::io;
 
