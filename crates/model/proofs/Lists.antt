@@ -10,8 +10,8 @@ use Rattle.std.proofs.shelf.Lists.{take-more, take-all, length-take-le, length-
 use Rattle.std.specs.declared.option.Option.{Option}
 use Rattle.std.specs.declared.option.Option.the-variants.{Some, None}
 use Rattle.model.specs.Places.{Place, settled}
-use Rattle.model.specs.Writes.{Meaning, bytes, Write, store, post, settle, spent, Granted, Ran, Broken, Spared, Spared-line, rewritten}
-use Rattle.model.specs.Laws.{Once, Spends, Stored-lasts, Cut-old-or-new, Ran-spends}
+use Rattle.model.specs.Writes.{Meaning, bytes, Write, store, post, settle, spent, Granted, Ran, Broken, Spared, Spared-line, bytes-after}
+use Rattle.model.specs.Laws.{Once, Spends, Stored-lasts, Cut-old-or-new, Ran-bytes, Ran-spends}
 use Rattle.model.proofs.Places.{Steady, holds, Rests, rests-steady, Shows, shows-steady, Ready, Either, either-steady, store-shows, store-either, post-ready, stays-ready, settle-rests, cut-either, bytes-follow}
 
 -- parts of a list
@@ -109,13 +109,9 @@ stored-lasts L p b us vs m n before after r =
     subst (λ x. x .at p ≡ settled b) (sym (v .2 .2)) last
 
 -- the present bytes
-abbrev pub written : List Write → List ℕ → List ℕ
-written [] xs = xs
-written (w ∷ ws) xs = written ws (rewritten w xs)
-
-pub ran-bytes : (L : ℕ) (ws : List Write) (m n : Meaning) → Ran L ws m n → bytes n ≡ written ws (bytes m)
+pub ran-bytes : Ran-bytes
 ran-bytes L [] m n e = ap bytes e
-ran-bytes L (w ∷ ws) m n r = ran-bytes L ws (r .0) n (r .2) ∙ ap (written ws) (bytes-follow L w m (r .0) (r .1))
+ran-bytes L (w ∷ ws) m n r = ran-bytes L ws (r .0) n (r .2) ∙ ap (bytes-after ws) (bytes-follow L w m (r .0) (r .1))
 
 -- how far a list has come: one call more, and the end of the power
 pub ran-next : (L : ℕ) (ws : List Write) (i : ℕ) (w : Write) (m n o : Meaning) → i < length ws → getD ws i settle ≡ w → Ran L (take i ws) m n → Granted L w n o → Ran L (take (i + 1) ws) m o

@@ -9,11 +9,11 @@ use lib.ListN.{length, take, getD, set}
 use Rattle.std.proofs.shelf.Tests.{cases-eq}
 use Rattle.std.proofs.shelf.Lists.{length-append}
 use Rattle.model.specs.Places.{settled}
-use Rattle.model.specs.Writes.{Meaning, bytes, Write, store, post, settle, Granted, Ran, Spared}
+use Rattle.model.specs.Writes.{Meaning, bytes, Write, store, post, settle, Granted, Ran, Spared, bytes-after}
 use Rattle.model.specs.Rounds.{stores, posts, lines, stores-and-posts, round, overwritten}
 use Rattle.model.specs.Laws.{Once, Has, Outside, Round-posts, Round-short, Round-outside, Round-old-or-new, Round-lasts, Round-bytes}
 use Rattle.model.proofs.Places.{holds, Rests, rests-steady, Shows, shows-steady, Ready, store-shows, post-ready, stays-ready, settle-rests, settled-survives}
-use Rattle.model.proofs.Lists.{ran-split, ran-size, spared-take, spared-append, once-take, once-before, ran-holds, cut-old-or-new, written, ran-bytes}
+use Rattle.model.proofs.Lists.{ran-split, ran-size, spared-take, spared-append, once-take, once-before, ran-holds, cut-old-or-new, ran-bytes}
 
 -- which places a round stores at
 spared-posts : (q l n : ℕ) → Spared q (posts l n)
@@ -110,18 +110,18 @@ round-lasts L p (b ∷ bs) i m n some lt r =
     posts-settle L (p + i) (getD (b ∷ bs) i 0) (p / L) count (s .0) n (shows .0) (reached .0) (reached .1) (shows .1) (s .2)
 
 -- the present bytes
-end-writes : (k l n : ℕ) (xs : List ℕ) → written (take k (posts l n ++ (settle ∷ []))) xs ≡ xs
+end-writes : (k l n : ℕ) (xs : List ℕ) → bytes-after (take k (posts l n ++ (settle ∷ []))) xs ≡ xs
 end-writes zero l n xs = refl
 end-writes (suc zero) l zero xs = refl
 end-writes (suc (suc k)) l zero xs = refl
 end-writes (suc k) l (suc n) xs = end-writes k (suc l) n xs
 
-stores-write : (k p : ℕ) (bs : List ℕ) (l n : ℕ) (xs : List ℕ) → written (take k (stores p bs ++ (posts l n ++ (settle ∷ [])))) xs ≡ overwritten xs p (take k bs)
+stores-write : (k p : ℕ) (bs : List ℕ) (l n : ℕ) (xs : List ℕ) → bytes-after (take k (stores p bs ++ (posts l n ++ (settle ∷ [])))) xs ≡ overwritten xs p (take k bs)
 stores-write zero p bs l n xs = refl
 stores-write (suc k) p [] l n xs = end-writes (suc k) l n xs
 stores-write (suc k) p (b ∷ bs) l n xs = stores-write k (suc p) bs l n (set xs p b)
 
-round-writes : (L k p : ℕ) (bs xs : List ℕ) → written (take k (round L p bs)) xs ≡ overwritten xs p (take k bs)
+round-writes : (L k p : ℕ) (bs xs : List ℕ) → bytes-after (take k (round L p bs)) xs ≡ overwritten xs p (take k bs)
 unfolding round
 round-writes L zero p bs xs = refl
 round-writes L (suc k) p [] xs = refl

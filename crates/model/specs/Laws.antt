@@ -7,7 +7,7 @@ use lib.ListN.{length, take, getD}
 use Rattle.std.specs.declared.option.Option.{Option}
 use Rattle.std.specs.declared.option.Option.the-variants.{Some, None}
 use Rattle.model.specs.Places.{settled}
-use Rattle.model.specs.Writes.{Meaning, bytes, Write, store, post, settle, Granted, Cut, Ran, Spares, Spared, Spared-line, rewritten}
+use Rattle.model.specs.Writes.{Meaning, bytes, Write, store, post, settle, Granted, Cut, Ran, Spares, Spared, Spared-line, rewritten, bytes-after}
 use Rattle.model.specs.Rounds.{round, overwritten}
 
 -- A settled place stays settled at its byte through any granted call that does not store at it.
@@ -45,6 +45,10 @@ Cut-supplies = (m n : Meaning) (s : Option ℕ) → Cut s m n → (n .size ≡ m
 -- Present bytes change only where a store says so.
 abbrev pub Bytes-follow : Type 0
 Bytes-follow = (L : ℕ) (w : Write) (m n : Meaning) → Granted L w m n → bytes n ≡ rewritten w (bytes m)
+
+-- The present bytes after a list of granted calls are those that its stores make.
+abbrev pub Ran-bytes : Type 0
+Ran-bytes = (L : ℕ) (ws : List Write) (m n : Meaning) → Ran L ws m n → bytes n ≡ bytes-after ws (bytes m)
 
 -- k calls leave t of the supply; without limit it stays without limit
 abbrev pub Spends : ℕ → Option ℕ → Option ℕ → Type 0
@@ -105,6 +109,7 @@ pub record Board-laws : Type 0 where
   pub settled-survives : Settled-survives
   pub cut-supplies : Cut-supplies
   pub bytes-follow : Bytes-follow
+  pub ran-bytes : Ran-bytes
   pub ran-spends : Ran-spends
   pub round-posts : Round-posts
   pub round-short : Round-short

@@ -109,3 +109,8 @@ abbrev pub rewritten : Write → List ℕ → List ℕ
 rewritten (store p b) xs = set xs p b
 rewritten (post l) xs = xs
 rewritten settle xs = xs
+
+-- the present bytes after a list of calls
+abbrev pub bytes-after : List Write → List ℕ → List ℕ
+bytes-after [] xs = xs
+bytes-after (w ∷ ws) xs = bytes-after ws (rewritten w xs)

@@ -28,6 +28,7 @@ use Rattle.region.specs.Plans.{bottom, blank, fresh-bytes, fill, finish, forma
 use Rattle.region.specs.Cuts.{Settled, Finds, As-before, Blank, Format-found}
 use Rattle.region.specs.Laws.{Format-cut, Format-lasts}
 use Rattle.region.proofs.Numbers.{length-spelled}
+use Rattle.region.proofs.Frames.{region-zip, region-inside}
 use Rattle.region.proofs.Reading.{size-test}
 use Rattle.region.proofs.Writing.{region-written, laid-join}
 use Rattle.region.proofs.Changes.{settled-found, same-byte}
@@ -41,6 +42,21 @@ blank-found o fits e =
     record {
       zero-byte = e;
       refused = rw (size-test (length (bytes o)) (omega (arith, fits .0, n)) (omega (arith, fits .1, n)), ne-eqb (getD (bytes o) version-at 0) version (λ f. omega (arith, z, f))) refl;
+    }
+
+-- what was settled still is
+before-found : (m o : Meaning) → o .size ≡ m .size → ((q a : ℕ) → q < m .size → m .at q ≡ settled a → o .at q ≡ settled a) → As-before m o
+before-found m o same h =
+    record {
+      places = h;
+      frames = λ fs s.
+          settled-found o fs
+            (record {
+              stands = subst (λ k. Stands k fs) (sym same) (s .stands);
+              laid =
+                  subst (λ k. Region-laid (λ q b. o .at q ≡ settled b) k fs) (sym same)
+                  (region-zip (λ q b lt e. h q b lt e) (m .size) fs (region-inside (m .size) fs (s .stands)) (s .laid));
+            });
     }
 
 -- the bottom alone stands in every region
@@ -94,11 +110,11 @@ module _ (L : ℕ) (m : Meaning) (some : 0 < L) (fits : Size-allowed (m .size)) 
   one-found : (k a : ℕ) (n o : Meaning) (t : Option ℕ) → m .at version-at ≡ settled a → Ran L (take k (blank L)) m n → Cut t n o → As-before m o ⊎ Blank o
   one-found k a n o t e r cut =
       ⊎-elim
-      (λ f. inl (λ q b lt g.
+      (λ f. inl (before-found m o (size-of k (blank L) m n o t refl r cut) (λ q b lt g.
       ⊎-elim
       (λ z. ap (o .at) z ∙ (f ∙ ap settled (same-byte (sym e ∙ (ap (m .at) (sym z) ∙ g)))))
       (λ ne. others-keep k 0 m n o t r q b lt ne g .1 cut)
-      (cases-eq q version-at)))
+      (cases-eq q version-at))))
       (λ f. inr (blank-found o (still-allowed o (size-of k (blank L) m n o t refl r cut)) f))
       (version-cut k a 0 m n o t refl e r cut)
 

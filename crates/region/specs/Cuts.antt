@@ -27,9 +27,10 @@ pub record Finds (m : Meaning) (fs : List Located) : Type 0 where
 abbrev pub Marked : Plan → Meaning → Type 0
 Marked p m = present (m .at (p .mark)) ≡ p .byte
 
--- as before: what was settled is settled at the same byte
-abbrev pub As-before : Meaning → Meaning → Type 0
-As-before m o = (q a : ℕ) → q < m .size → m .at q ≡ settled a → o .at q ≡ settled a
+-- as before: what was settled is settled at the same byte, and frames that were settled are found again
+pub record As-before (m o : Meaning) : Type 0 where
+  pub places : (q a : ℕ) → q < m .size → m .at q ≡ settled a → o .at q ≡ settled a
+  pub frames : (fs : List Located) → Settled m fs → Finds o fs
 
 -- blank: place 0 holds 0 for good, and reading refuses the region with 9
 pub record Blank (o : Meaning) : Type 0 where

@@ -68,7 +68,7 @@ module _ (s : Option ℕ) (m o : Meaning) (p : Prepared 0 before-bytes s m) (lon
       ap (λ xs. getD xs k 0) seen ∙ (getD-part (bytes o) 0 least-size k lt ∙ (ap (λ q. getD (bytes o) q 0) z ∙ (byte-at o k (omega arith) ∙ ap present e)))
 
   same-places : As-before m o → Shows AsBefore o
-  same-places h k lt = h k (getD before-bytes k 0) (omega (arith, p .room)) (let z : k ≡ 0 + k = omega arith in ap (m .at) z ∙ p .places k lt)
+  same-places h k lt = h .places k (getD before-bytes k 0) (omega (arith, p .room)) (let z : k ≡ 0 + k = omega arith in ap (m .at) z ∙ p .places k lt)
 
   same-bytes : As-before m o → bs ≡ before-bytes
   same-bytes h =

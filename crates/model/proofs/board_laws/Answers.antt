@@ -1,5 +1,5 @@
 use Rattle.model.proofs.Places.{settled-stays, settled-survives, cut-supplies, bytes-follow}
-use Rattle.model.proofs.Lists.{stored-lasts, cut-old-or-new, ran-spends}
+use Rattle.model.proofs.Lists.{stored-lasts, cut-old-or-new, ran-bytes, ran-spends}
 use Rattle.model.proofs.Rounds.{round-posts, round-short, round-outside, round-old-or-new, round-lasts, round-bytes}
 use Rattle.model.proofs.board_laws.Needs as need
 
@@ -12,6 +12,7 @@ returns c =
       settled-survives = settled-survives;
       cut-supplies = cut-supplies;
       bytes-follow = bytes-follow;
+      ran-bytes = ran-bytes;
       ran-spends = ran-spends;
       round-posts = round-posts;
       round-short = round-short;
