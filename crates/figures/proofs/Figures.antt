@@ -1,6 +1,5 @@
 -- The worked figures, computed.
-use mathlib.Core.Path.{_≡_, refl}
-use mathlib.Core.List.{[], _∷_}
+use mathlib.Core.Path.{refl}
 use Prim.Native.Nat.{ℕ}
 use Rattle.model.specs.Rounds.{round}
 use Rattle.plain.specs.declared.Answer.{Answer}

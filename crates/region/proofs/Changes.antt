@@ -1,15 +1,15 @@
 -- One change on a board whose header and frames are settled, from the laws of rounds alone.
-use mathlib.Core.Path.{_≡_, refl, sym, ap, subst, _∙_}
+use mathlib.Core.Path.{_≡_, sym, ap, subst, _∙_}
 use mathlib.Core.Logic.{_⊎_, inl, inr, ⊎-elim}
-use mathlib.Core.List.{List, [], _∷_, _++_}
-use Prim.Native.Nat.{ℕ, zero, suc, _+_, _-_, _<_, _≤_}
+use mathlib.Core.List.{List, [], _∷_}
+use Prim.Native.Nat.{ℕ, _+_, _-_, _<_}
 use native.Mathlib.Omega.{arith}
 use lib.ListN.{length, take, getD}
 use Rattle.std.proofs.shelf.Tests.{cases-eq, cases-lt}
 use Rattle.std.proofs.shelf.Lists.{take-all}
 use Rattle.std.specs.declared.option.Option.{Option}
 use Rattle.std.specs.declared.option.Option.the-variants.{None}
-use Rattle.model.specs.Places.{Place, settled, present}
+use Rattle.model.specs.Places.{settled, present}
 use Rattle.model.specs.Writes.{Meaning, bytes, Write, Cut, Ran}
 use Rattle.model.specs.Rounds.{round}
 use Rattle.model.specs.Laws.{Outside}
@@ -17,9 +17,9 @@ use Rattle.model.proofs.Places.{length-bytes, byte-at, cut-supplies}
 use Rattle.model.proofs.Lists.{ran-size, ran-first, ran-second, ran-split}
 use Rattle.model.proofs.Rounds.{round-outside, round-old-or-new, round-lasts}
 use Rattle.plain.specs.Frames.{Change}
-use Rattle.layout.specs.Layout.{size-at, size-size, frames-at}
+use Rattle.layout.specs.Layout.{size-size, frames-at}
 use Rattle.region.specs.Frames.{Located, Laid, Region-laid, Stands}
-use Rattle.region.specs.Reading.{Found, Spells}
+use Rattle.region.specs.Reading.{Found}
 use Rattle.region.specs.Plans.{Plan, writes, plan, after, Allowed}
 use Rattle.region.specs.Cuts.{Settled, Finds, Marked}
 use Rattle.region.specs.Laws.{One-change, Marker-moves, Change-lasts}

@@ -1,22 +1,19 @@
 -- A change's effect on a list of bytes, and which bytes do not matter.
-use mathlib.Core.Path.{_≡_, refl, sym, ap, subst, _∙_}
-use mathlib.Core.Logic.{_⊎_, inl, inr, ⊎-elim}
+use mathlib.Core.Path.{_≡_, sym, ap, subst, _∙_}
+use mathlib.Core.Logic.{inl, inr, ⊎-elim}
 use mathlib.Core.Bool.{true, false}
-use mathlib.Core.List.{List, [], _∷_, _++_}
-use Prim.Native.Nat.{ℕ, zero, suc, _+_, _<_, _≤_}
+use mathlib.Core.List.{List, [], _∷_}
+use Prim.Native.Nat.{ℕ, suc, _+_, _<_, _≤_}
 use native.Mathlib.Omega.{arith}
 use lib.ListN.{length, getD}
-use Rattle.std.specs.declared.option.Option.{Option}
-use Rattle.std.specs.declared.result.Result.the-variants.{Ok}
 use Rattle.model.specs.Rounds.{overwritten}
 use Rattle.model.specs.Laws.{Outside}
-use Rattle.plain.specs.Frames.{Change}
-use Rattle.layout.specs.Layout.{version-at, size-at, size-size, frames-at, pad-size, pad-place, frame-size, other}
-use Rattle.region.specs.Frames.{Located, count, Laid, Frame-laid, is-top, Frames-laid, Region-laid, In-row, Stands}
-use Rattle.region.specs.Reading.{read, Found, Spells}
+use Rattle.layout.specs.Layout.{version-at, size-at, size-size, frames-at, frame-size, other}
+use Rattle.region.specs.Frames.{Located, count, Laid, Frames-laid, Region-laid, In-row, Stands}
+use Rattle.region.specs.Reading.{Found, Spells}
 use Rattle.region.specs.Writing.{pad-bytes}
-use Rattle.region.specs.Plans.{Plan, plan, after, stack-end, Allowed}
-use Rattle.region.specs.Laws.{Pad-back, Read-back, Reads-exactly, Effect, carried, In-idle-pad, Frames-alone-count}
+use Rattle.region.specs.Plans.{Plan, plan, after, stack-end}
+use Rattle.region.specs.Laws.{Pad-back, Reads-exactly, Effect, carried, In-idle-pad, Frames-alone-count}
 use Rattle.region.proofs.Numbers.{length-spelled}
 use Rattle.region.proofs.Frames.{frame-zip, frames-zip, region-zip, frame-inside, frame-idle, frames-inside, region-inside, pad-low, pad-high}
 use Rattle.region.proofs.Overwritten.{over-length, over-outside, over-inside}

@@ -3,29 +3,25 @@ use mathlib.Core.Path.{_≡_, refl, sym, ap, subst, _∙_}
 use mathlib.Core.Logic.{_⊎_, inl, inr, ⊎-elim}
 use mathlib.Core.Bool.{true}
 use mathlib.Core.List.{List, [], _∷_, _++_}
-use Prim.Native.Nat.{ℕ, zero, suc, _+_, _-_, _<_, _≤_}
+use Prim.Native.Nat.{ℕ, _+_, _-_, _<_}
 use native.Mathlib.Omega.{arith}
 use lib.ListN.{length, take, getD}
 use Rattle.std.proofs.shelf.Tests.{cases-eq, ne-eqb}
 use Rattle.std.proofs.shelf.Lists.{take-all}
 use Rattle.std.specs.declared.option.Option.{Option}
 use Rattle.std.specs.declared.option.Option.the-variants.{None}
-use Rattle.std.specs.declared.result.Result.the-variants.{Err}
-use Rattle.model.specs.declared.faults.StackFault.the-variants.{Version}
 use Rattle.model.specs.Places.{settled, present}
 use Rattle.model.specs.Writes.{Meaning, bytes, Write, Cut, Ran}
 use Rattle.model.specs.Rounds.{round}
-use Rattle.model.specs.Laws.{Outside}
 use Rattle.model.proofs.Places.{length-bytes, byte-at, cut-supplies}
 use Rattle.model.proofs.Lists.{ran-size, ran-first, ran-second, ran-split}
 use Rattle.model.proofs.Rounds.{round-outside, round-old-or-new, round-lasts}
 use Rattle.region.specs.Numbers.{spelled}
-use Rattle.layout.specs.Layout.{version, version-at, size-at, size-size, frames-at, frame-size}
-use Rattle.region.specs.Frames.{Located, Laid, Region-laid, Size-allowed, Stands}
-use Rattle.region.specs.Reading.{read}
-use Rattle.region.specs.Writing.{region-bytes, frame-bytes}
-use Rattle.region.specs.Plans.{bottom, blank, fresh-bytes, fill, finish, format-plan}
-use Rattle.region.specs.Cuts.{Settled, Finds, As-before, Blank, Format-found}
+use Rattle.layout.specs.Layout.{version, version-at, size-at, size-size, frame-size}
+use Rattle.region.specs.Frames.{Laid, Region-laid, Size-allowed, Stands}
+use Rattle.region.specs.Writing.{frame-bytes}
+use Rattle.region.specs.Plans.{bottom, blank, fresh-bytes, fill, finish}
+use Rattle.region.specs.Cuts.{Finds, As-before, Blank}
 use Rattle.region.specs.Laws.{Format-cut, Format-lasts}
 use Rattle.region.proofs.Numbers.{length-spelled}
 use Rattle.region.proofs.Frames.{region-zip, region-inside}

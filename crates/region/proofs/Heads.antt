@@ -1,24 +1,21 @@
 -- One frame, test by test, as the code reads it.
 use mathlib.Core.Path.{_≡_, refl, sym, ap, subst, _∙_}
-use mathlib.Core.Logic.{⊎-elim}
-use mathlib.Core.Bool.{Bool, true, false, _&&_, cond}
+use mathlib.Core.Bool.{Bool, true, false, cond}
 use mathlib.Core.List.{List}
 use Prim.Native.Nat.{ℕ, _+_, _<_, _≤_}
 use native.Mathlib.Omega.{arith}
 use lib.Dec.{ltb, leb}
-use lib.ListN.{length, getD}
-use Rattle.std.proofs.shelf.Tests.{and-from, and-left, and-right, leb-true, leb-false, lt-leb, lt-ltb}
-use Rattle.std.specs.declared.option.Option.{Option}
+use lib.ListN.{length}
+use Rattle.std.proofs.shelf.Tests.{and-from, and-left, and-right, leb-false, lt-leb, lt-ltb}
 use Rattle.std.specs.declared.option.Option.the-variants.{Some, None}
 use Rattle.region.specs.declared.read.FrameHead.{FrameHead}
 use Rattle.layout.specs.declared.marker.Marker.{Marker}
 use Rattle.region.specs.declared.read.PadContent.{PadContent}
-use Rattle.region.specs.Numbers.{part}
 use Rattle.layout.specs.Layout.{max-frames, with-answer, args-place, pad-place, frame-size, markers, is-last, live-pad}
 use Rattle.region.specs.Frames.{kind-rule}
-use Rattle.region.specs.Reading.{count-at, kind-at, marker-at, live-at, tag-at, answer-at, progress-at, undamaged, frame-at}
+use Rattle.region.specs.Reading.{count-at, kind-at, marker-at, live-at, tag-at, undamaged}
 use Rattle.layout.specs.Markers.{marker-of}
-use Rattle.region.specs.Answers.{pad-at, Heads, Head-found}
+use Rattle.region.specs.Answers.{pad-at, Head-found}
 use Rattle.region.proofs.Numbers.{length-part}
 
 -- a frame that ends past the board already with fewer argument bytes

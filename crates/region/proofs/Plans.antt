@@ -1,11 +1,11 @@
 -- A change's plan and the places that count: round one stores at none of them, and round two makes the new frames of the old ones.
 use mathlib.Core.Path.{_≡_, refl, sym, ap, subst, _∙_}
 use mathlib.Core.Bool.{Bool, true, false}
-use mathlib.Core.List.{List, [], _∷_, _++_}
-use Prim.Native.Nat.{ℕ, zero, suc, _+_, _^_, _<_, _≤_}
+use mathlib.Core.List.{List, [], _∷_}
+use Prim.Native.Nat.{ℕ, suc, _+_, _^_, _<_, _≤_}
 use native.Mathlib.Omega.{arith}
 use lib.Dec.{ltb, leb}
-use lib.ListN.{length, getD}
+use lib.ListN.{length}
 use Rattle.std.proofs.shelf.Tests.{and-from, lt-ltb, le-leb, false≢true}
 use Rattle.std.specs.declared.option.Option.{Option}
 use Rattle.std.specs.declared.option.Option.the-variants.{Some, None}
@@ -15,13 +15,12 @@ use Rattle.plain.specs.declared.Answer.{Answer}
 use Rattle.plain.specs.declared.Progress.{Progress}
 use Rattle.layout.specs.declared.marker.Pad.{Pad}
 use Rattle.layout.specs.declared.marker.Pad.the-variants.{Zero, One}
-use Rattle.region.specs.Numbers.{spelled, Bytes}
-use Rattle.layout.specs.Layout.{max-frames, max-args, version-at, size-at, size-size, frames-at, answer-size, progress-size, pad-size, count-size, kind-size, kind-place, args-place, pad-place, marker-place, frame-size, marker-byte, other}
-use Rattle.region.specs.Frames.{Located, count, end, plain, Laid, Pad-laid, Frame-laid, is-top, Frames-laid, Region-laid, kind-rule, Answer-fits, Well-placed, In-row, Stands}
-use Rattle.region.specs.Writing.{pad-bytes, frame-bytes}
-use Rattle.region.specs.Plans.{Plan, turn, turned, above, push, at-top, plan, extended, after, stack-end, May-call, Allowed}
+use Rattle.region.specs.Numbers.{Bytes}
+use Rattle.layout.specs.Layout.{max-frames, max-args, frames-at, answer-size, progress-size, count-size, kind-size, pad-place, marker-place, frame-size, marker-byte, other}
+use Rattle.region.specs.Frames.{Located, count, end, plain, Laid, Frame-laid, is-top, Frames-laid, Answer-fits, Well-placed, In-row, Stands}
+use Rattle.region.specs.Plans.{Plan, turn, turned, above, push, at-top, plan, extended, after, May-call, Allowed}
 use Rattle.region.proofs.Numbers.{length-spelled}
-use Rattle.region.proofs.Frames.{laid-zip, pad-zip, frame-zip, frames-zip, pad-within, laid-within, pad-low, pad-high, frame-inside, frame-idle, frames-inside}
+use Rattle.region.proofs.Frames.{pad-zip, frame-zip, frames-zip, pad-within, pad-low, pad-high, frame-inside, frame-idle, frames-inside}
 use Rattle.region.proofs.Writing.{length-pad, length-frame, pad-written, frame-written}
 
 -- frames fs from place p on, above i others, become gs by this plan

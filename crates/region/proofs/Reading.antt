@@ -1,7 +1,7 @@
 -- Reading finds exactly the frames that the places that count spell.
 use mathlib.Core.Path.{_≡_, refl, sym, ap, subst, _∙_}
-use mathlib.Core.Logic.{_⊎_, inl, inr, ⊎-elim}
-use mathlib.Core.Bool.{Bool, true, false, _&&_, cond}
+use mathlib.Core.Logic.{⊎-elim}
+use mathlib.Core.Bool.{Bool, true, false, _&&_}
 use mathlib.Core.List.{List, [], _∷_}
 use Prim.Native.Nat.{ℕ, zero, suc, _+_, _^_, _<_, _≤_}
 use native.Mathlib.Omega.{arith}
@@ -21,7 +21,7 @@ use Rattle.layout.specs.declared.marker.Pad.{Pad}
 use Rattle.layout.specs.declared.marker.Pad.the-variants.{Zero, One}
 use Rattle.region.specs.Numbers.{number, spelled, part, Bytes}
 use Rattle.layout.specs.Layout.{least-size, greatest-size, max-frames, max-args, version, version-at, size-at, size-size, frames-at, with-answer, answer-size, progress-size, answer-place, progress-place, count-size, kind-size, kind-place, args-place, pad-place, marker-place, frame-size, marker-byte, markers, is-last, live-pad}
-use Rattle.region.specs.Frames.{Located, count, Laid, Pad-laid, Frame-laid, is-top, Frames-laid, Region-laid, kind-rule, Answer-fits, Well-placed, In-row, Stands}
+use Rattle.region.specs.Frames.{Located, count, Laid, Pad-laid, Frame-laid, Frames-laid, kind-rule, Answer-fits, Well-placed, In-row}
 use Rattle.region.specs.Reading.{count-at, kind-at, marker-at, live-at, tag-at, answer-at, progress-at, undamaged, frame-at, before, frames-from, read, Found, Spells}
 use Rattle.region.proofs.Numbers.{length-spelled, number-spelled, number-below, spelled-number, length-part, getD-part, bytes-part}
 

@@ -2,7 +2,7 @@
 use mathlib.Core.Path.{_≡_}
 use mathlib.Core.Bool.{Bool, cond, _&&_}
 use mathlib.Core.List.{List, [], _∷_}
-use Prim.Native.Nat.{ℕ, zero, suc, _+_, _%_}
+use Prim.Native.Nat.{ℕ, zero, suc, _+_}
 use lib.Dec.{eqb, ltb, leb}
 use lib.ListN.{length, getD}
 use Rattle.std.specs.declared.option.Option.{Option}
@@ -13,8 +13,6 @@ use Rattle.model.specs.declared.faults.StackFault.{StackFault}
 use Rattle.model.specs.declared.faults.StackFault.the-variants.{BoardSize, Version, StoredSize, Damaged}
 use Rattle.plain.specs.declared.Answer.{Answer}
 use Rattle.plain.specs.declared.Progress.{Progress}
-use Rattle.layout.specs.declared.marker.Pad.{Pad}
-use Rattle.layout.specs.declared.marker.Pad.the-variants.{Zero, One}
 use Rattle.region.specs.Numbers.{number, part}
 use Rattle.layout.specs.Layout.{least-size, greatest-size, max-frames, version, version-at, size-at, size-size, frames-at, with-answer, answer-size, progress-size, answer-place, progress-place, count-size, kind-size, kind-place, args-place, pad-place, marker-place, frame-size, markers, is-last, live-pad}
 use Rattle.region.specs.Frames.{Located, kind-rule, Region-laid, Stands}
