@@ -47,12 +47,12 @@ before-found m o same h =
       places = h;
       frames = λ fs s.
           settled-found o fs
-            (record {
-              stands = subst (λ k. Stands k fs) (sym same) (s .stands);
-              laid =
-                  subst (λ k. Region-laid (λ q b. o .at q ≡ settled b) k fs) (sym same)
-                  (region-zip (λ q b lt e. h q b lt e) (m .size) fs (region-inside (m .size) fs (s .stands)) (s .laid));
-            });
+          (record {
+            stands = subst (λ k. Stands k fs) (sym same) (s .stands);
+            laid =
+                subst (λ k. Region-laid (λ q b. o .at q ≡ settled b) k fs) (sym same)
+                (region-zip (λ q b lt e. h q b lt e) (m .size) fs (region-inside (m .size) fs (s .stands)) (s .laid));
+          });
     }
 
 -- the bottom alone stands in every region

@@ -1,4 +1,4 @@
-// Bytes that one round of writing stores, at most those of the longest frame.
+// Bytes that one round of writing stores, at most those of the longest frame. Its methods stand in `write`.
 ghost use mathlib.Core.Path.{_≡_};
 ghost use Prim.Native.Nat.{_≤_};
 ghost use lib.ListN.{length};

@@ -7,7 +7,7 @@ ghost use Rattle.std.specs.Results.{Cases};
 ghost use Rattle.model.specs.declared.faults.Layer.the-variants.{Stack};
 ghost use Rattle.model.specs.Faults.{Refusal};
 ghost use Rattle.model.specs.Rounds.{overwritten};
-ghost use Rattle.layout.specs.Layout.{max-args, max-frame};
+ghost use Rattle.layout.specs.Layout.{max-args, max-frame, answer-size, progress-size};
 ghost use Rattle.region.specs.Numbers.{spelled};
 ghost use Rattle.region.specs.Writing.{tag, answer-number, pad-bytes, fresh-frame};
 ghost use Rattle.region.specs.Plans.{fresh-bytes};
@@ -24,6 +24,7 @@ use plain::Answer;
 use plain::Progress;
 
 impl Stretch {
+    // No bytes.
     fn new() -> Stretch
         ensures empty { λ r. ⌜ written r ≡ [] ⌝ }
         ensures len { λ r. ⌜ r .len ≡ 0 ⌝ }
@@ -44,6 +45,7 @@ impl Stretch {
         self.len = self.len + piece.len();
     }
 
+    // The bytes.
     pub fn as_slice(&self) -> &[u8]
         ensures { λ r. ⌜ now r ≡ written (now (self .entry)) ⌝ }
     {
@@ -61,6 +63,7 @@ fn put(into: &mut [u8], at: usize, bytes: &[u8])
     }
 }
 
+// Numbers, the most significant byte first.
 fn u16_bytes(value: u16) -> [u8; 2]
     ensures { λ r. ⌜ r ≡ spelled 2 value ⌝ }
 {
@@ -99,7 +102,7 @@ fn answer_number(answer: Option<Answer>) -> u64
 
 // A tag, and two numbers behind it.
 fn tagged(tag: u8, answer: u64, progress: u64) -> Stretch
-    ensures { λ r. ⌜ written r ≡ tag ∷ (spelled 8 answer ++ spelled 8 progress) ⌝ }
+    ensures { λ r. ⌜ written r ≡ tag ∷ (spelled answer-size answer ++ spelled progress-size progress) ⌝ }
 {
     let mut pad = Stretch::new();
     pad.append(&[tag]);
