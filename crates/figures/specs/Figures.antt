@@ -1,4 +1,4 @@
--- The worked figures.
+-- Figures computed from the definitions.
 use mathlib.Core.Path.{_≡_}
 use mathlib.Core.List.{List, [], _∷_}
 use Prim.Native.Nat.{ℕ}

@@ -1,4 +1,4 @@
-// The worked figures of the format: one theorem about the definitions that the contracts use.
+// Figures of the format, computed: one theorem about the definitions that the contracts use.
 ghost use Rattle.figures.specs.Figures.{Figures};
 
 // The figures hold.

@@ -5,13 +5,6 @@ use lib.Dec.{eqb, ltb}
 use Rattle.layout.specs.declared.marker.Pad.{Pad}
 use Rattle.layout.specs.declared.marker.Pad.the-variants.{Zero, One}
 
--- a region has from least-size to greatest-size places
-abbrev pub least-size : ℕ
-least-size = 44
-
-abbrev pub greatest-size : ℕ
-greatest-size = 65536
-
 -- at most this many frames stand, and a frame has at most this many argument bytes
 abbrev pub max-frames : ℕ
 max-frames = 64
@@ -87,6 +80,13 @@ marker-place p n = args-place p + n + (pad-size + pad-size)
 abbrev pub frame-size : ℕ → ℕ
 frame-size n = count-size + kind-size + n + (pad-size + pad-size) + marker-size
 
+-- a region has from least-size to greatest-size places: the header and a bottom frame fit
+abbrev pub least-size : ℕ
+least-size = frames-at + frame-size 0
+
+abbrev pub greatest-size : ℕ
+greatest-size = 65536
+
 -- the longest frame
 abbrev pub max-frame : ℕ
 max-frame = frame-size max-args
@@ -103,9 +103,9 @@ pad-bit One = 2
 abbrev pub marker-byte : Pad → Bool → ℕ
 marker-byte live last = pad-bit live + end-bit last
 
--- markers are below this
-abbrev pub markers : ℕ
-markers = 4
+-- every marker is below this
+abbrev pub marker-limit : ℕ
+marker-limit = 4
 
 abbrev pub other : Pad → Pad
 other Zero = One
@@ -115,6 +115,6 @@ other One = Zero
 abbrev pub is-last : ℕ → Bool
 is-last marker = eqb (marker % 2) 1
 
--- bit 1 of a marker
+-- bit 1 of a marker, which is below marker-limit
 abbrev pub live-pad : ℕ → Pad
 live-pad marker = cond (ltb marker 2) Zero One

@@ -5,7 +5,7 @@ use lib.Dec.{ltb}
 use Rattle.std.specs.declared.option.Option.{Option}
 use Rattle.std.specs.declared.option.Option.the-variants.{Some, None}
 use Rattle.layout.specs.declared.marker.Marker.{Marker}
-use Rattle.layout.specs.Layout.{markers, is-last, live-pad}
+use Rattle.layout.specs.Layout.{marker-limit, is-last, live-pad}
 
 abbrev pub marker-of : ℕ → Option Marker
-marker-of b = cond (ltb b markers) (Some (record { live = live-pad b; last = is-last b })) None
+marker-of b = cond (ltb b marker-limit) (Some (record { live = live-pad b; last = is-last b })) None

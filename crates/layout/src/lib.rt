@@ -2,11 +2,11 @@
 pub mod extent;
 pub mod marker;
 
-// A region has from LEAST_SIZE to GREATEST_SIZE places.
-pub const LEAST_SIZE: usize = 44;
+// A region has from LEAST_SIZE to GREATEST_SIZE places: the header and a bottom frame fit.
+pub const LEAST_SIZE: usize = FRAMES_AT + BARE_FRAME;
 
 pub const GREATEST_SIZE: usize = 65_536;
-// At most so many frames stand, and a frame has at most so many argument bytes.
+// At most this many frames stand, and a frame has at most this many argument bytes.
 pub const MAX_FRAMES: usize = 64;
 
 pub const MAX_ARGS: usize = 255;

@@ -48,7 +48,7 @@ impl Marker {
         }
     }
 
-    // The marker that a byte is; other bits than 0 and 1 are in none.
+    // The marker with this byte; none if another bit than 0 and 1 is set.
     pub fn of(byte: u8) -> Option<Marker>
         ensures { λ r. ⌜ r ≡ marker-of byte ⌝ }
     {

@@ -44,7 +44,7 @@ impl BoardFault {
     }
 }
 
-// What the stack layer refuses: a caller's mistake, what its region holds, or the board's own refusal, passed up whole.
+// What the stack layer refuses: a caller's mistake, what its region holds, or the board's own refusal, passed up with the count set in a refusal 1.
 #[derive(Clone, Copy, PartialEq, Eq, Debug)]
 pub enum StackFault {
     Board(BoardFault),
@@ -54,7 +54,7 @@ pub enum StackFault {
     BoardSize,
     // 9, place 0 does not hold the version.
     Version,
-    // 10, the region was made for a board of another size.
+    // 10, places 1 to 4 do not hold the number of places.
     StoredSize,
     // 11, a damaged frame: its first place.
     Damaged { first: usize },

@@ -7,14 +7,14 @@ use Rattle.std.specs.declared.option.Option.the-variants.{Some, None}
 use Rattle.plain.specs.declared.Progress.{Progress}
 use Rattle.plain.specs.declared.Answer.{Answer}
 
--- one activity; answer is what the one that it opened handed to it, None before that
+-- one activity; answer is what the one that it opened handed to it, None before that and after a note
 pub record Frame : Type 0 where
   pub kind : ℕ
   pub args : List ℕ
   pub progress : Progress
   pub answer : Option Answer
 
--- a frame without progress and without answer
+-- a frame with progress 0 and without answer
 abbrev pub fresh : ℕ → List ℕ → Frame
 fresh kind args = record { kind = kind; args = args; progress = record { value = 0 }; answer = None }
 

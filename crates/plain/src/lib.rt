@@ -31,7 +31,7 @@ pub struct PlainFrame {
     pub answer: Option<Answer>,
 }
 
-// The frames, bottom first; one stands at least.
+// The frames, bottom first. `empty` makes the bottom, and no call removes it.
 #[derive(Drop)]
 pub struct PlainStack {
     frames: Vec<PlainFrame>,

@@ -13,7 +13,7 @@ use Rattle.model.specs.Places.{settled, present}
 use Rattle.model.specs.Writes.{Meaning, bytes, Write, Cut, Ran}
 use Rattle.model.specs.Rounds.{round}
 use Rattle.model.specs.Laws.{Outside}
-use Rattle.model.proofs.Places.{length-bytes, byte-at, cut-supplies}
+use Rattle.model.proofs.Places.{length-bytes, byte-at, settled-survives, cut-supplies}
 use Rattle.model.proofs.Lists.{ran-size, ran-first, ran-second, ran-split}
 use Rattle.model.proofs.Rounds.{round-outside, round-old-or-new, round-lasts}
 use Rattle.plain.specs.Frames.{Change}
@@ -21,16 +21,16 @@ use Rattle.layout.specs.Layout.{size-size, frames-at}
 use Rattle.region.specs.Frames.{Located, Laid, Region-laid, Stands}
 use Rattle.region.specs.Reading.{Found}
 use Rattle.region.specs.Plans.{Plan, writes, plan, after, Allowed}
-use Rattle.region.specs.Cuts.{Settled, Finds, Marked}
-use Rattle.region.specs.Laws.{One-change, Marker-moves, Change-lasts}
+use Rattle.region.specs.Cuts.{Settled, Finds, Marker-new}
+use Rattle.region.specs.Laws.{Settled-found, One-change, Marker-moves, Change-lasts}
 use Rattle.region.proofs.Numbers.{length-spelled}
 use Rattle.region.proofs.Frames.{region-zip, region-inside}
 use Rattle.region.proofs.Reading.{spelled-read}
 use Rattle.region.proofs.Plans.{Local, local, after-stands}
 
 -- settled places are read
-pub settled-found : (m : Meaning) (fs : List Located) → Settled m fs → Finds m fs
-settled-found m fs s =
+pub found-now : (m : Meaning) (fs : List Located) → Settled m fs → Finds m fs
+found-now m fs s =
     let n : length (bytes m) ≡ m .size = length-bytes m in
     let found = region-zip (λ q b lt e. byte-at m q lt ∙ ap present e) (m .size) fs (region-inside (m .size) fs (s .stands)) (s .laid) in
     record {
@@ -42,6 +42,20 @@ settled-found m fs s =
             laid = subst (λ k. Region-laid (Found (bytes m)) k fs) (sym n) found;
           });
     }
+
+pub settled-found : Settled-found
+settled-found fs m o t s = (
+      found-now m fs s,
+      λ cut.
+          let same = cut-supplies m o t cut .0 in
+          found-now o fs
+            (record {
+              stands = subst (λ k. Stands k fs) (sym same) (s .stands);
+              laid =
+                  subst (λ k. Region-laid (λ q b. o .at q ≡ settled b) k fs) (sym same)
+                  (region-zip (λ q b lt e. settled-survives q b m o t lt e cut) (m .size) fs (region-inside (m .size) fs (s .stands)) (s .laid));
+            }),
+    )
 
 -- a plan and the whole region
 module _ (size : ℕ) (fs gs : List Located) (pl : Plan) (l : Local size 0 frames-at fs gs pl) where
@@ -130,7 +144,7 @@ module _ (L : ℕ) (c : Change) (fs : List Located) (m : Meaning) (some : 0 < L)
 
     becomes : (u : Meaning) → u .size ≡ m .size → Apart u → u .at (pl .mark) ≡ settled (pl .byte) → Finds u (after c fs)
     becomes u same apart e =
-        settled-found u (after c fs)
+        found-now u (after c fs)
         (record {
           stands = subst (λ k. Stands k (after c fs)) (sym same) (after-stands (m .size) c fs (s .stands) a);
           laid =
@@ -143,7 +157,7 @@ module _ (L : ℕ) (c : Change) (fs : List Located) (m : Meaning) (some : 0 < L)
 
     stays : (u : Meaning) → u .size ≡ m .size → Apart u → u .at (pl .mark) ≡ settled (l .old) → Finds u fs
     stays u same apart e =
-        settled-found u fs
+        found-now u fs
         (record {
           stands = subst (λ k. Stands k fs) (sym same) (s .stands);
           laid =
@@ -156,7 +170,7 @@ module _ (L : ℕ) (c : Change) (fs : List Located) (m : Meaning) (some : 0 < L)
             let byte : l .old ≡ b = same-byte (sym (mark-old n old) ∙ (ap (n .at) (sym at) ∙ h)) in
             ap (u .at) at ∙ (e ∙ ap settled byte)
 
-    two-cut : (j : ℕ) (o u : Meaning) (t : Option ℕ) → Ran L (take j two) n o → Cut t o u → ((Marked pl u → ⊥) × Finds u fs) ⊎ (Marked pl u × Finds u (after c fs))
+    two-cut : (j : ℕ) (o u : Meaning) (t : Option ℕ) → Ran L (take j two) n o → Cut t o u → ((Marker-new pl u → ⊥) × Finds u fs) ⊎ (Marker-new pl u × Finds u (after c fs))
     two-cut j o u t r cut =
         let same : u .size ≡ m .size = cut-supplies o u t cut .0 ∙ (ran-size L (take j two) n o r ∙ sized) in
         let apart : Apart u = λ q b lt ne e. elsewhere j o u t r q b lt ne e .1 cut in
@@ -178,12 +192,12 @@ module _ (L : ℕ) (c : Change) (fs : List Located) (m : Meaning) (some : 0 < L)
         (subst (λ q. o .at q ≡ settled (pl .byte)) here (round-lasts L (pl .mark) (pl .byte ∷ []) 0 n o some (omega arith) r))
 
   -- where round one was cut off
-  one-cut : (k : ℕ) (n o : Meaning) (t : Option ℕ) → Ran L (take k one) m n → Cut t n o → (Marked pl o → ⊥) × Finds o fs
+  one-cut : (k : ℕ) (n o : Meaning) (t : Option ℕ) → Ran L (take k one) m n → Cut t n o → (Marker-new pl o → ⊥) × Finds o fs
   one-cut k n o t r cut =
       let old : Old o = one-keeps k n o t r .1 cut in
       let same : o .size ≡ m .size = cut-supplies n o t cut .0 ∙ ran-size L (take k one) m n r in (
         λ marked. l .moves (sym (ap present (mark-old o old)) ∙ marked),
-        settled-found o fs (record { stands = subst (λ k. Stands k fs) (sym same) (s .stands); laid = subst (λ k. Region-laid (λ q b. o .at q ≡ settled b) k fs) (sym same) old }),
+        found-now o fs (record { stands = subst (λ k. Stands k fs) (sym same) (s .stands); laid = subst (λ k. Region-laid (λ q b. o .at q ≡ settled b) k fs) (sym same) old }),
       )
 
   -- after the whole of round one
@@ -192,7 +206,7 @@ module _ (L : ℕ) (c : Change) (fs : List Located) (m : Meaning) (some : 0 < L)
       let whole : Ran L (take (length one) one) m n = subst (λ ws. Ran L ws m n) (sym (take-all (length one) one (omega arith))) r in
       (ran-size L one m n r, one-keeps (length one) n n None whole .0, one-lasts n r)
 
-  pub cut-found : (k : ℕ) (n o : Meaning) (t : Option ℕ) → Ran L (take k (writes L pl)) m n → Cut t n o → ((Marked pl o → ⊥) × Finds o fs) ⊎ (Marked pl o × Finds o (after c fs))
+  pub cut-found : (k : ℕ) (n o : Meaning) (t : Option ℕ) → Ran L (take k (writes L pl)) m n → Cut t n o → ((Marker-new pl o → ⊥) × Finds o fs) ⊎ (Marker-new pl o × Finds o (after c fs))
   cut-found k n o t r cut =
       ⊎-elim
       (λ lt. inl (one-cut k n o t (ran-first L k one two m n (omega arith) r) cut))
@@ -204,7 +218,7 @@ module _ (L : ℕ) (c : Change) (fs : List Located) (m : Meaning) (some : 0 < L)
       let y = ran-split L one two m n r in
       let b = between (y .0) (y .1) in two-lasts (y .0) (b .0) (b .1) (b .2) n (y .2)
 
-  pub not-marked : Marked pl m → ⊥
+  pub not-marked : Marker-new pl m → ⊥
   not-marked marked = l .moves (sym (ap present (mark-old m (s .laid))) ∙ marked)
 
 pub one-change : One-change

@@ -13,7 +13,7 @@ use Rattle.region.specs.Frames.{Located, count, Laid, Frames-laid, Region-laid
 use Rattle.region.specs.Reading.{Found, Spells}
 use Rattle.region.specs.Writing.{pad-bytes}
 use Rattle.region.specs.Plans.{Plan, plan, after, stack-end}
-use Rattle.region.specs.Laws.{Pad-back, Reads-exactly, Effect, carried, In-idle-pad, Frames-alone-count}
+use Rattle.region.specs.Laws.{Pad-back, Reads-exactly, Effect, both-rounds, In-idle-pad, Frames-alone-count}
 use Rattle.region.proofs.Numbers.{length-spelled}
 use Rattle.region.proofs.Frames.{frame-zip, frames-zip, region-zip, frame-inside, frame-idle, frames-inside, region-inside, pad-low, pad-high}
 use Rattle.region.proofs.Overwritten.{over-length, over-outside, over-inside}
@@ -23,7 +23,7 @@ use Rattle.region.proofs.Plans.{Local, local, after-stands, plain-after}
 use Rattle.region.proofs.Changes.{region-idle, region-follows, mark-apart}
 
 pub reads-exactly : Reads-exactly
-reads-exactly bs fs h = (read-spelled bs fs h, spelled-read bs fs)
+reads-exactly bs fs = (read-spelled bs fs, spelled-read bs fs)
 
 pub pad-back : Pad-back
 pad-back a p fits lt =
@@ -32,9 +32,7 @@ pad-back a p fits lt =
     (found .1, found .2)
 
 pub effect : Effect
-effect bs fs c bytes found a =
-    let s = read-spelled bs fs bytes found in
-    (spelled-read cs (after c fs) (spells s), plain-after (length bs) c fs (s .stands) a)
+effect bs fs c s a = (spelled-read cs (after c fs) spells, plain-after (length bs) c fs (s .stands) a)
   where
     pl : Plan
     pl = plan c fs
@@ -43,10 +41,10 @@ effect bs fs c bytes found a =
     one = overwritten bs (pl .at) (pl .bytes)
 
     cs : List ℕ
-    cs = carried pl bs
+    cs = both-rounds pl bs
 
-    spells : Spells bs fs → Spells cs (after c fs)
-    spells s =
+    spells : Spells cs (after c fs)
+    spells =
         record {
           stands = subst (λ k. Stands k (after c fs)) (sym same) (after-stands (length bs) c fs (s .stands) a);
           laid = subst (λ k. Region-laid (Found cs) k (after c fs)) (sym same) (region-follows (length bs) fs (after c fs) pl l (Found cs) new marker (region-zip kept (length bs) fs (region-idle (length bs) fs (after c fs) pl l) (s .laid)));

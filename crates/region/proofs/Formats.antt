@@ -27,7 +27,7 @@ use Rattle.region.proofs.Numbers.{length-spelled}
 use Rattle.region.proofs.Frames.{region-zip, region-inside}
 use Rattle.region.proofs.Reading.{size-test}
 use Rattle.region.proofs.Writing.{region-written, laid-join}
-use Rattle.region.proofs.Changes.{settled-found, same-byte}
+use Rattle.region.proofs.Changes.{found-now, same-byte}
 use Rattle.std.proofs.shelf.Lists.{length-append}
 
 -- place 0 holds 0
@@ -46,7 +46,7 @@ before-found m o same h =
     record {
       places = h;
       frames = λ fs s.
-          settled-found o fs
+          found-now o fs
           (record {
             stands = subst (λ k. Stands k fs) (sym same) (s .stands);
             laid =
@@ -71,7 +71,7 @@ length-fresh size = length-append (spelled size-size size) (frame-bytes bottom t
 -- the version before the bytes of round two
 empty-found : (o : Meaning) → Size-allowed (o .size) → o .at version-at ≡ settled version → Laid (λ q b. o .at q ≡ settled b) size-at (fresh-bytes (o .size)) → Finds o (bottom ∷ [])
 empty-found o fits e h =
-    settled-found o (bottom ∷ [])
+    found-now o (bottom ∷ [])
     (record {
       stands = bottom-stands (o .size) fits;
       laid =

@@ -11,7 +11,7 @@ use Rattle.std.specs.declared.option.Option.the-variants.{Some, None}
 use Rattle.region.specs.declared.read.FrameHead.{FrameHead}
 use Rattle.layout.specs.declared.marker.Marker.{Marker}
 use Rattle.region.specs.declared.read.PadContent.{PadContent}
-use Rattle.layout.specs.Layout.{max-frames, with-answer, args-place, pad-place, frame-size, markers, is-last, live-pad}
+use Rattle.layout.specs.Layout.{max-frames, with-answer, args-place, pad-place, frame-size, marker-limit, is-last, live-pad}
 use Rattle.region.specs.Frames.{kind-rule}
 use Rattle.region.specs.Reading.{count-at, kind-at, marker-at, live-at, tag-at, undamaged}
 use Rattle.layout.specs.Markers.{marker-of}
@@ -35,7 +35,7 @@ pub head-found : (bs : List ℕ) (size i p n kind b : ℕ) (k : Marker) (c : Pad
     → h .extent .first ≡ p → h .kind ≡ kind → h .extent .count ≡ n → h .marker ≡ k → h .progress ≡ c .progress → h .answer ≡ c .answer
     → Head-found bs i p h
 head-found bs size i p n kind b k c h l few en ek room rule eb em ep hf hk hc hm hp ha =
-    let m = some-of (ltb b markers) _ k em in
+    let m = some-of (ltb b marker-limit) _ k em in
     let live : live-pad (marker-at bs p) ≡ k .live = ap live-pad (sym eb) ∙ ap (λ z. z .live) (m .1) in
     let last : is-last (marker-at bs p) ≡ k .last = ap is-last (sym eb) ∙ ap (λ z. z .last) (m .1) in
     let place : pad-place p n (k .live) ≡ live-at bs p = (λ j. pad-place p (en j) (sym live j)) in
@@ -45,7 +45,7 @@ head-found bs size i p n kind b k c h l few en ek room rule eb em ep hf hk hc hm
           and-from (ltb i max-frames) _ (lt-ltb i max-frames few)
           (and-from (leb (p + frame-size (count-at bs p)) (length bs)) _ ((λ j. leb (p + frame-size (sym en j)) (l j)) ∙ room)
           (and-from (kind-rule i (kind-at bs p) (count-at bs p)) _ ((λ j. kind-rule i (sym ek j) (sym en j)) ∙ rule)
-          (and-from (ltb (marker-at bs p) markers) _ (ap (λ z. ltb z markers) (sym eb) ∙ m .0) (d .0))));
+          (and-from (ltb (marker-at bs p) marker-limit) _ (ap (λ z. ltb z marker-limit) (sym eb) ∙ m .0) (d .0))));
       heads =
           record {
             first = hf;

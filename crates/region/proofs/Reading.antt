@@ -20,7 +20,7 @@ use Rattle.plain.specs.declared.Progress.{Progress}
 use Rattle.layout.specs.declared.marker.Pad.{Pad}
 use Rattle.layout.specs.declared.marker.Pad.the-variants.{Zero, One}
 use Rattle.region.specs.Numbers.{number, spelled, part, Bytes}
-use Rattle.layout.specs.Layout.{least-size, greatest-size, max-frames, max-args, version, version-at, size-at, size-size, frames-at, with-answer, answer-size, progress-size, answer-place, progress-place, count-size, kind-size, kind-place, args-place, pad-place, marker-place, frame-size, marker-byte, markers, is-last, live-pad}
+use Rattle.layout.specs.Layout.{least-size, greatest-size, max-frames, max-args, version, version-at, size-at, size-size, frames-at, with-answer, answer-size, progress-size, answer-place, progress-place, count-size, kind-size, kind-place, args-place, pad-place, marker-place, frame-size, marker-byte, marker-limit, is-last, live-pad}
 use Rattle.region.specs.Frames.{Located, count, Laid, Pad-laid, Frame-laid, Frames-laid, kind-rule, Answer-fits, Well-placed, In-row}
 use Rattle.region.specs.Reading.{count-at, kind-at, marker-at, live-at, tag-at, answer-at, progress-at, undamaged, frame-at, before, frames-from, read, Found, Spells}
 use Rattle.region.proofs.Numbers.{length-spelled, number-spelled, number-below, spelled-number, length-part, getD-part, bytes-part}
@@ -52,7 +52,7 @@ pad-found bs q (Some a) v fits lt h =
       (λ i. record { value = n i }),
     )
 
--- markers
+-- marker-limit
 live-of : (d : Pad) (l : Bool) → live-pad (marker-byte d l) ≡ d
 live-of Zero false = refl
 live-of Zero true = refl
@@ -65,7 +65,7 @@ last-of Zero true = refl
 last-of One false = refl
 last-of One true = refl
 
-marker-below : (d : Pad) (l : Bool) → ltb (marker-byte d l) markers ≡ true
+marker-below : (d : Pad) (l : Bool) → ltb (marker-byte d l) marker-limit ≡ true
 marker-below Zero false = refl
 marker-below Zero true = refl
 marker-below One false = refl
@@ -102,7 +102,7 @@ frame-found reach bs i p x last few w h =
           and-from (ltb i max-frames) _ (lt-ltb i max-frames few)
           (and-from (leb (f + frame-size (count-at bs f)) reach) _ (le-leb (f + frame-size (count-at bs f)) reach room)
           (and-from (kind-rule i (kind-at bs f) (count-at bs f)) _ rule
-          (and-from (ltb (marker-at bs f) markers) _ (ap (λ b. ltb b markers) marker ∙ marker-below (x .live) last) tag)));
+          (and-from (ltb (marker-at bs f) marker-limit) _ (ap (λ b. ltb b marker-limit) marker ∙ marker-below (x .live) last) tag)));
       ends = ap is-last marker ∙ last-of (x .live) last;
       same = (λ j. record { first = f; live = live j; frame = record { kind = kind j; args = args j; progress = progress j; answer = answer j } });
       width = n;
@@ -160,7 +160,7 @@ pad-laid bs q h le =
     with-none : eqb (tag-at bs q) with-answer ≡ false → answer-at bs q ≡ None
     with-none e = rw e refl
 
-marker-again : (m : ℕ) → m < markers → m ≡ marker-byte (live-pad m) (is-last m)
+marker-again : (m : ℕ) → m < marker-limit → m ≡ marker-byte (live-pad m) (is-last m)
 marker-again zero lt = refl
 marker-again (suc zero) lt = refl
 marker-again (suc (suc zero)) lt = refl
@@ -172,7 +172,7 @@ frame-read reach bs i p h e =
     let a = and-parts (ltb i max-frames) _ e in
     let b = and-parts (leb (p + frame-size (count-at bs p)) reach) _ (a .1) in
     let c = and-parts (kind-rule i (kind-at bs p) (count-at bs p)) _ (b .1) in
-    let d = and-parts (ltb (marker-at bs p) markers) _ (c .1) in
+    let d = and-parts (ltb (marker-at bs p) marker-limit) _ (c .1) in
     let n : length (part bs (args-place p) (count-at bs p)) ≡ count-at bs p = length-part bs (args-place p) (count-at bs p) in
     let pad = pad-laid bs (live-at bs p) h (leb-true (tag-at bs (live-at bs p)) with-answer (d .1)) in (
       record {
@@ -189,7 +189,7 @@ frame-read reach bs i p h e =
         kind = number-laid bs (kind-place p) kind-size h;
         args = part-laid bs (args-place p) (count-at bs p);
         pad = subst (λ k. Pad-laid (Found bs) (pad-place p k (live-pad (marker-at bs p))) (answer-at bs (live-at bs p)) (progress-at bs (live-at bs p))) (sym n) (pad .0);
-        marker = subst (λ k. getD bs (marker-place p k) 0 ≡ marker-byte (live-pad (marker-at bs p)) (is-last (marker-at bs p))) (sym n) (marker-again (marker-at bs p) (ltb-true (marker-at bs p) markers (d .0)));
+        marker = subst (λ k. getD bs (marker-place p k) 0 ≡ marker-byte (live-pad (marker-at bs p)) (is-last (marker-at bs p))) (sym n) (marker-again (marker-at bs p) (ltb-true (marker-at bs p) marker-limit (d .0)));
       },
     )
 

@@ -27,7 +27,7 @@ Bytes-read p xs m r ys =
     Cases r (λ _. (p + length xs ≤ m .size) × (ys ≡ part (bytes m) p (length xs)))
     (λ e. (m .size < p + length xs) × Fault 2 (max p (m .size)) e × (ys ≡ xs))
 
--- what the pad at place q holds; nothing if its tag is none that there is
+-- what the pad at place q holds; nothing if its tag is neither 0 nor 1
 abbrev pub pad-at : List ℕ → ℕ → Option PadContent
 pad-at bs q = cond (leb (tag-at bs q) with-answer) (Some (record { answer = answer-at bs q; progress = progress-at bs q })) None
 

@@ -24,15 +24,15 @@ pub record Finds (m : Meaning) (fs : List Located) : Type 0 where
   pub frames : read (bytes m) ≡ Ok fs
 
 -- the marker's place holds the byte of round two
-abbrev pub Marked : Plan → Meaning → Type 0
-Marked p m = present (m .at (p .mark)) ≡ p .byte
+abbrev pub Marker-new : Plan → Meaning → Type 0
+Marker-new p m = present (m .at (p .mark)) ≡ p .byte
 
 -- as before: what was settled is settled at the same byte, and frames that were settled are found again
 pub record As-before (m o : Meaning) : Type 0 where
   pub places : (q a : ℕ) → q < m .size → m .at q ≡ settled a → o .at q ≡ settled a
   pub frames : (fs : List Located) → Settled m fs → Finds o fs
 
--- blank: place 0 holds 0 for good, and reading refuses the region with 9
+-- blank: place 0 is settled at 0, and reading refuses the region with 9
 pub record Blank (o : Meaning) : Type 0 where
   pub zero-byte : o .at version-at ≡ settled 0
   pub refused : read (bytes o) ≡ Err Version

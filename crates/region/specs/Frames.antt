@@ -28,6 +28,7 @@ count x = length (x .frame .args)
 abbrev pub end : Located → ℕ
 end x = x .first + frame-size (count x)
 
+-- the frames without their places and pads
 abbrev pub plain : List Located → List Frame
 plain fs = map (λ x. x .frame) fs
 
@@ -41,7 +42,8 @@ Pad-laid P q None p = P q no-answer × Laid P (progress-place q) (spelled progre
 Pad-laid P q (Some a) p =
     P q with-answer × (Laid P (answer-place q) (spelled answer-size (a .value)) × Laid P (progress-place q) (spelled progress-size (p .value)))
 
--- P holds of each place that counts in frame x, with its byte: all but those of the idle pad. last: the stack ends here.
+-- P holds of each place that counts in frame x, with its byte: all but those of the idle pad, and of an answer
+-- that is absent. last: the stack ends here.
 pub record Frame-laid (P : ℕ → ℕ → Type 0) (x : Located) (last : Bool) : Type 0 where
   pub count-bytes : Laid P (x .first) (spelled count-size (count x))
   pub kind : Laid P (kind-place (x .first)) (spelled kind-size (x .frame .kind))
@@ -64,7 +66,7 @@ pub record Region-laid (P : ℕ → ℕ → Type 0) (size : ℕ) (fs : List Loca
   pub size-bytes : Laid P size-at (spelled size-size size)
   pub frames : Frames-laid P fs
 
--- the bottom has kind 0 and no arguments; a frame above it, which has i > 0 frames below it, has another kind and few arguments
+-- the bottom has kind 0 and no arguments; a frame above it, which has i > 0 frames below it, has another kind and at most max-args arguments
 abbrev pub kind-rule : ℕ → ℕ → ℕ → Bool
 kind-rule zero kind n = eqb kind 0 && eqb n 0
 kind-rule (suc i) kind n = ltb 0 kind && leb n max-args

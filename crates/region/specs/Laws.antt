@@ -18,11 +18,11 @@ use Rattle.region.specs.Frames.{Located, count, plain, Answer-fits, Size-allow
 use Rattle.region.specs.Reading.{answer-at, progress-at, read, Spells}
 use Rattle.region.specs.Writing.{pad-bytes, region-bytes}
 use Rattle.region.specs.Plans.{Plan, writes, plan, after, stack-end, Allowed, bottom, format-plan}
-use Rattle.region.specs.Cuts.{Settled, Finds, Marked, Format-found}
+use Rattle.region.specs.Cuts.{Settled, Finds, Marker-new, Format-found}
 
 -- Reading finds these frames exactly if they make a stack, and each place that counts holds its byte.
 abbrev pub Reads-exactly : Type 0
-Reads-exactly = (bs : List ℕ) (fs : List Located) → Bytes bs → (read bs ≡ Ok fs → Spells bs fs) × (Spells bs fs → read bs ≡ Ok fs)
+Reads-exactly = (bs : List ℕ) (fs : List Located) → (Bytes bs → read bs ≡ Ok fs → Spells bs fs) × (Spells bs fs → read bs ≡ Ok fs)
 
 -- A pad that was written is read as its answer and its progress.
 abbrev pub Pad-back : Type 0
@@ -35,14 +35,18 @@ Read-back =
     → read (region-bytes size fs rest) ≡ Ok fs
 
 -- the bytes after both rounds of a plan
-abbrev pub carried : Plan → List ℕ → List ℕ
-carried p bs = overwritten (overwritten bs (p .at) (p .bytes)) (p .mark) (p .byte ∷ [])
+abbrev pub both-rounds : Plan → List ℕ → List ℕ
+both-rounds p bs = overwritten (overwritten bs (p .at) (p .bytes)) (p .mark) (p .byte ∷ [])
 
--- A change's whole plan makes bytes that read as its effect on the plain stack.
+-- On bytes that spell frames, a change's whole plan makes bytes that read as its effect on the plain stack.
 abbrev pub Effect : Type 0
 Effect =
-    (bs : List ℕ) (fs : List Located) (c : Change) → Bytes bs → read bs ≡ Ok fs → Allowed (length bs) c fs
-    → (read (carried (plan c fs) bs) ≡ Ok (after c fs)) × (plain (after c fs) ≡ does c (plain fs))
+    (bs : List ℕ) (fs : List Located) (c : Change) → Spells bs fs → Allowed (length bs) c fs
+    → (read (both-rounds (plan c fs) bs) ≡ Ok (after c fs)) × (plain (after c fs) ≡ does c (plain fs))
+
+-- Settled frames are found, and found again after a power cut.
+abbrev pub Settled-found : Type 0
+Settled-found = (fs : List Located) (m o : Meaning) (s : Option ℕ) → Settled m fs → Finds m fs × (Cut s m o → Finds o fs)
 
 -- One change under power cuts: after any first k calls of its plan and a power cut, reading finds the frames before it or those after
 -- it; those after it exactly if the marker's place holds the byte of round two.
@@ -50,11 +54,11 @@ abbrev pub One-change : Type 0
 One-change =
     (L k : ℕ) (c : Change) (fs : List Located) (m n o : Meaning) (s : Option ℕ) → 0 < L → Settled m fs → Allowed (m .size) c fs
     → Ran L (take k (writes L (plan c fs))) m n → Cut s n o
-    → ((Marked (plan c fs) o → ⊥) × Finds o fs) ⊎ (Marked (plan c fs) o × Finds o (after c fs))
+    → ((Marker-new (plan c fs) o → ⊥) × Finds o fs) ⊎ (Marker-new (plan c fs) o × Finds o (after c fs))
 
 -- The byte of round two is another one than the marker had.
 abbrev pub Marker-moves : Type 0
-Marker-moves = (c : Change) (fs : List Located) (m : Meaning) → Settled m fs → Allowed (m .size) c fs → Marked (plan c fs) m → ⊥
+Marker-moves = (c : Change) (fs : List Located) (m : Meaning) → Settled m fs → Allowed (m .size) c fs → Marker-new (plan c fs) m → ⊥
 
 -- After the whole plan the header and the new frames are settled.
 abbrev pub Change-lasts : Type 0
@@ -62,7 +66,7 @@ Change-lasts =
     (L : ℕ) (c : Change) (fs : List Located) (m n : Meaning) → 0 < L → Settled m fs → Allowed (m .size) c fs
     → Ran L (writes L (plan c fs)) m n → Finds n (after c fs)
 
--- A format under power cuts, over whatever is settled at place 0.
+-- A format under power cuts, where place 0 was settled, at any byte.
 abbrev pub Format-cut : Type 0
 Format-cut =
     (L k a : ℕ) (m n o : Meaning) (s : Option ℕ) → 0 < L → Size-allowed (m .size) → m .at version-at ≡ settled a
@@ -91,6 +95,7 @@ pub record Region-laws : Type 0 where
   pub pad-back : Pad-back
   pub read-back : Read-back
   pub effect : Effect
+  pub settled-found : Settled-found
   pub one-change : One-change
   pub marker-moves : Marker-moves
   pub change-lasts : Change-lasts

@@ -25,8 +25,8 @@ abbrev pub with-count : BoardFault → ℕ → StackFault
 with-count (NoPower carried) k = on-board (NoPower k)
 with-count (Outside given) k = on-board (Outside given)
 
--- calls of an operation that has carried out before others: carried out, with the count of all; or ended by the power, with 1 and
--- that count
+-- calls of an operation that has already carried out before calls: carried out, with the count of all; or ended by the power, with 1
+-- and that count
 abbrev pub Counted : ℕ → ℕ → List Write → Meaning → Result ℕ StackFault → Meaning → Type 0
 Counted L before ws m r n =
     Cases r (λ k. (k ≡ before + length ws) × Ran L ws m n) (λ e. (k : ℕ) × Refusal 1 Board (before + k) e × Broken L ws m k n)
@@ -47,7 +47,7 @@ pub record Format-stopped (L : ℕ) (m : Meaning) (e : StackFault) (n : Meaning)
   -- after the next power cut, over a region whose place 0 was settled
   pub found : (a : ℕ) (s : Option ℕ) (o : Meaning) → m .at version-at ≡ settled a → Cut s n o → Format-found L carried m o
 
--- the board's size is none of a region: 8, and the board is as it was
+-- no region may have the board's size: 8, and the board is as it was
 pub record Format-refused (m : Meaning) (e : StackFault) (n : Meaning) : Type 0 where
   pub not-allowed : Size-allowed (m .size) → ⊥
   pub fault : Refusal 8 Stack 0 e

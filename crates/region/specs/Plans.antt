@@ -37,6 +37,7 @@ turn a p x =
       byte = marker-byte (other (x .live)) true;
     }
 
+-- the frame x after that
 abbrev pub turned : Option Answer → Progress → Located → Located
 turned a p x =
     record { first = x .first; live = other (x .live); frame = record { kind = x .frame .kind; args = x .frame .args; progress = p; answer = a } }
@@ -55,7 +56,7 @@ push kind args x =
       byte = marker-byte (x .live) false;
     }
 
--- the plan for the top; a stack always has one
+-- the plan for the last frame; without one there is nothing to write, and no change is allowed
 abbrev pub at-top : (Located → Plan) → List Located → Plan
 at-top f [] = record { at = 0; bytes = []; mark = 0; byte = 0 }
 at-top f (x ∷ []) = f x
@@ -67,6 +68,7 @@ plan (call kind args) fs = at-top (push kind args) fs
 plan (note p) fs = at-top (turn None p) fs
 plan (give a) fs = at-top (λ x. turn (Some a) (x .frame .progress) x) (without-top fs)
 
+-- the frames with a fresh one on top
 abbrev pub extended : ℕ → List ℕ → List Located → List Located
 extended kind args [] = []
 extended kind args (x ∷ []) = x ∷ above kind args x ∷ []
@@ -93,7 +95,7 @@ pub record May-call (size : ℕ) (kind : ℕ) (args : List ℕ) (fs : List Locat
   pub frames-few : length fs < max-frames
   pub room : stack-end fs + frame-size (length args) ≤ size
 
--- the change is none of those that are refused: its numbers fit, a call has room, a give has a frame below the top
+-- the change is possible: its numbers fit, a call has room, a give has a frame below the top
 abbrev pub Allowed : ℕ → Change → List Located → Type 0
 Allowed size (call kind args) fs = May-call size kind args fs
 Allowed size (note p) fs = p .value < 256 ^ progress-size

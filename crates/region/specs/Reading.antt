@@ -14,7 +14,7 @@ use Rattle.model.specs.declared.faults.StackFault.the-variants.{BoardSize, Vers
 use Rattle.plain.specs.declared.Answer.{Answer}
 use Rattle.plain.specs.declared.Progress.{Progress}
 use Rattle.region.specs.Numbers.{number, part}
-use Rattle.layout.specs.Layout.{least-size, greatest-size, max-frames, version, version-at, size-at, size-size, frames-at, with-answer, answer-size, progress-size, answer-place, progress-place, count-size, kind-size, kind-place, args-place, pad-place, marker-place, frame-size, markers, is-last, live-pad}
+use Rattle.layout.specs.Layout.{least-size, greatest-size, max-frames, version, version-at, size-at, size-size, frames-at, with-answer, answer-size, progress-size, answer-place, progress-place, count-size, kind-size, kind-place, args-place, pad-place, marker-place, frame-size, marker-limit, is-last, live-pad}
 use Rattle.region.specs.Frames.{Located, kind-rule, Region-laid, Stands}
 
 -- what stands in the frame that starts at place p
@@ -41,13 +41,13 @@ abbrev pub progress-at : List ℕ → ℕ → Progress
 progress-at bs q = record { value = number (part bs (progress-place q) progress-size) }
 
 -- whether the frame at place p, with i frames below it, is undamaged: it is not one too many, ends at reach at the latest,
--- keeps the rule for kind and number of arguments, and has a marker and a live tag that there are
+-- keeps the rule for kind and number of arguments, and has a marker below marker-limit and a live tag of 0 or 1
 abbrev pub undamaged : ℕ → List ℕ → ℕ → ℕ → Bool
 undamaged reach bs i p =
     ltb i max-frames && (leb (p + frame-size (count-at bs p)) reach && (kind-rule i (kind-at bs p) (count-at bs p)
-    && (ltb (marker-at bs p) markers && leb (tag-at bs (live-at bs p)) with-answer)))
+    && (ltb (marker-at bs p) marker-limit && leb (tag-at bs (live-at bs p)) with-answer)))
 
--- the undamaged frame at place p
+-- the frame at place p, if it is undamaged
 abbrev pub frame-at : List ℕ → ℕ → Located
 frame-at bs p =
     record {
@@ -62,6 +62,7 @@ frame-at bs p =
           };
     }
 
+-- a frame before the frames that were read behind it
 abbrev pub before : Located → Result (List Located) StackFault → Result (List Located) StackFault
 before x (Ok xs) = Ok (x ∷ xs)
 before x (Err e) = Err e
@@ -88,6 +89,7 @@ has-size bs = eqb (number (part bs size-at size-size)) (length bs)
 abbrev pub header : List ℕ → Result (Unit {0}) StackFault
 header bs = cond (allows-size bs) (cond (has-version bs) (cond (has-size bs) (Ok tt) (Err StoredSize)) (Err Version)) (Err BoardSize)
 
+-- what is read behind a header that passed its tests
 abbrev pub behind : Result (Unit {0}) StackFault → Result (List Located) StackFault → Result (List Located) StackFault
 behind (Ok u) r = r
 behind (Err e) r = Err e

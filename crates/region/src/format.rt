@@ -26,7 +26,7 @@ fn three_rounds<B: Board>(board: &mut B) -> Result<u64, StackFault>
 }
 
 // Makes the region an empty stack, the bottom alone with progress 0 and no answer, and answers how many writing calls that took. On a
-// board whose size is none of a region it is refused with 8, and the board stays. Where the power ends it, it is refused with 1 and
+// board whose size no region may have it is refused with 8, and the board stays. Where the power ends it, it is refused with 1 and
 // the number of writing calls carried out.
 pub fn format<B: Board>(board: &mut B) -> Result<u64, StackFault>
     ensures { λ r. ⌜ Format-answered width (meaning (now (board .entry))) r (meaning (now (board .exit))) ⌝ }

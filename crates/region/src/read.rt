@@ -20,6 +20,7 @@ use layout::MAX_ARGS;
 use layout::MAX_FRAMES;
 use layout::NO_ANSWER;
 use layout::SIZE_AT;
+use layout::SIZE_SIZE;
 use layout::TAG_SIZE;
 use layout::VERSION;
 use layout::VERSION_AT;
@@ -64,7 +65,7 @@ fn read_u32<B: Board>(board: &B, at: usize) -> u32
     requires { ⌜ at + 4 < 2 ^ 64 ⌝ }
     ensures { λ r. ⌜ r ≡ number (part (bytes (meaning (now (board .entry)))) at 4) ⌝ }
 {
-    let mut bytes = [0; 4];
+    let mut bytes = [0; SIZE_SIZE];
     fill(board, at, &mut bytes);
     u32::from_be_bytes(bytes)
 }
@@ -100,7 +101,7 @@ pub struct PadContent {
     pub progress: Progress,
 }
 
-// The pad at a place; none if its tag is none that there is.
+// The pad at a place; none if its tag is neither 0 nor 1.
 fn read_pad<B: Board>(board: &B, at: usize) -> Option<PadContent>
     requires { ⌜ at + pad-size < 2 ^ 64 ⌝ }
     ensures { λ r. ⌜ r ≡ pad-at (bytes (meaning (now (board .entry)))) at ⌝ }
@@ -217,8 +218,8 @@ fn has_size<B: Board>(board: &B) -> bool
     read_u32(board, SIZE_AT) as usize == length(board)
 }
 
-// Checks the header: 8 the board's size is none that a region may have, 9 place 0 does not hold the version, 10 the region was made
-// for a board of another size.
+// Checks the header: 8 the board's size is none that a region may have, 9 place 0 does not hold the version, 10 places 1 to 4 do not
+// hold the board's size.
 pub fn read_header<B: Board>(board: &B) -> Result<(), StackFault>
     ensures { λ r. ⌜ r ≡ header (bytes (meaning (now (board .entry)))) ⌝ }
 {

@@ -16,6 +16,7 @@ use crate::stretch::Stretch;
 use layout::MAX_ARGS;
 use layout::MAX_FRAME;
 use layout::NO_ANSWER;
+use layout::SIZE_SIZE;
 use layout::WITH_ANSWER;
 use layout::marker::Marker;
 use layout::marker::Pad;
@@ -70,7 +71,7 @@ fn u16_bytes(value: u16) -> [u8; 2]
     value.to_be_bytes()
 }
 
-fn u32_bytes(value: u32) -> [u8; 4]
+fn u32_bytes(value: u32) -> [u8; SIZE_SIZE]
     ensures { λ r. ⌜ r ≡ spelled 4 value ⌝ }
 {
     value.to_be_bytes()

@@ -80,7 +80,7 @@ impl Finding {
     }
 }
 
-// Which of the three these bytes are, if they are one of them.
+// Which of the three these bytes are: neither blank nor as before is taken for empty, and `found` is proved to be right in that.
 fn classify(found: &[u8; LEAST_SIZE]) -> Finding
     ensures { λ r. ⌜ Classed r (now (found .entry)) ⌝ }
 {

@@ -1,5 +1,5 @@
 use Rattle.region.proofs.Writing.{read-back}
-use Rattle.region.proofs.Changes.{one-change, marker-moves, change-lasts}
+use Rattle.region.proofs.Changes.{settled-found, one-change, marker-moves, change-lasts}
 use Rattle.region.proofs.Formats.{format-cut, format-lasts}
 use Rattle.region.proofs.Effects.{reads-exactly, pad-back, effect, frames-alone-count}
 use Rattle.region.proofs.region_laws.Needs as need
@@ -11,6 +11,7 @@ returns c =
       pad-back = pad-back;
       read-back = read-back;
       effect = effect;
+      settled-found = settled-found;
       one-change = one-change;
       marker-moves = marker-moves;
       change-lasts = change-lasts;
