@@ -45,17 +45,17 @@ found-now m fs s =
 
 pub settled-found : Settled-found
 settled-found fs m o t s = (
-      found-now m fs s,
-      λ cut.
-          let same = cut-supplies m o t cut .0 in
-          found-now o fs
-            (record {
-              stands = subst (λ k. Stands k fs) (sym same) (s .stands);
-              laid =
-                  subst (λ k. Region-laid (λ q b. o .at q ≡ settled b) k fs) (sym same)
-                  (region-zip (λ q b lt e. settled-survives q b m o t lt e cut) (m .size) fs (region-inside (m .size) fs (s .stands)) (s .laid));
-            }),
-    )
+  found-now m fs s,
+  λ cut.
+      let same = cut-supplies m o t cut .0 in
+      found-now o fs
+      (record {
+        stands = subst (λ k. Stands k fs) (sym same) (s .stands);
+        laid =
+            subst (λ k. Region-laid (λ q b. o .at q ≡ settled b) k fs) (sym same)
+            (region-zip (λ q b lt e. settled-survives q b m o t lt e cut) (m .size) fs (region-inside (m .size) fs (s .stands)) (s .laid));
+      }),
+)
 
 -- a plan and the whole region
 module _ (size : ℕ) (fs gs : List Located) (pl : Plan) (l : Local size 0 frames-at fs gs pl) where

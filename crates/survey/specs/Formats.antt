@@ -2,6 +2,7 @@
 use mathlib.Core.Path.{_≡_}
 use mathlib.Core.List.{List, [], _∷_}
 use Prim.Native.Nat.{ℕ, _<_}
+use lib.Chars.{codes}
 use lib.ListN.{take, getD}
 use Rattle.std.specs.declared.option.Option.{Option}
 use Rattle.std.specs.declared.option.Option.the-variants.{None}
@@ -23,6 +24,11 @@ old-bottom = record { first = frames-at; live = One; frame = record { kind = 0; 
 
 abbrev pub before-bytes : List ℕ
 before-bytes = region-bytes 128 (old-bottom ∷ []) []
+
+abbrev pub finding-text : Finding → List ℕ
+finding-text AsBefore = codes "as before"
+finding-text Blank = codes "blank"
+finding-text Empty = codes "empty"
 
 -- what the bytes of places 0 to 43 are
 abbrev pub Classed : Finding → List ℕ → Type 0

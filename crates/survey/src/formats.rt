@@ -1,12 +1,13 @@
 // A format over a region that holds something, cut off at every supply.
 ghost use mathlib.Core.Path.{_≡_};
 ghost use Prim.Native.Nat.{_≤_};
+ghost use denote.Ref.{now};
 ghost use Rattle.std.specs.declared.option.Option.the-variants.{Some, None};
 ghost use Rattle.model.specs.Writes.{bytes, Cut};
 ghost use Rattle.layout.specs.Layout.{least-size};
 ghost use Rattle.region.specs.Frames.{Size-allowed};
 ghost use Rattle.region.specs.Numbers.{part};
-ghost use Rattle.survey.specs.Formats.{Classed, Stopped-format, Format-shown};
+ghost use Rattle.survey.specs.Formats.{finding-text, Classed, Stopped-format, Format-shown};
 use crate::record::prepare;
 use board::Board;
 use layout::LEAST_SIZE;
@@ -71,7 +72,9 @@ pub enum Finding {
 }
 
 impl Finding {
-    fn text(self) -> &'static str {
+    fn text(self) -> &'static str
+        ensures { λ r. ⌜ now r ≡ finding-text self ⌝ }
+    {
         match self {
             Finding::AsBefore => "as before",
             Finding::Blank => "blank",
