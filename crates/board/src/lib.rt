@@ -1,4 +1,6 @@
 // A memory board that may lose power between any two calls.
+#![tactic(auto)]
+
 ghost use Rattle.std.specs.Prelude.{◌≡◌, ℕ, ◌≤◌};
 ghost use Rattle.model.specs.Writes.{Meaning, store, post, settle, Cut};
 ghost use Rattle.model.specs.Calls.{Wrote, Answered};

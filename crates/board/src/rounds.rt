@@ -15,8 +15,8 @@ pub struct Stopped {
 
 // Stores the bytes from `at` on.
 fn store_bytes<B: Board>(board: &mut B, at: usize, bytes: &[u8]) -> Result<u64, Stopped>
-    requires { OnBoard at (length bytes.now) (meaning board.old).size }
-    ensures { Carried width (stores at bytes.now) (meaning board.old) result (meaning board.new) }
+    requires { OnBoard at (length bytes.now) (B.meaning board.old).size }
+    ensures { Carried B.width (stores at bytes.now) (B.meaning board.old) result (B.meaning board.new) }
 {
     for i in 0..bytes.len() {
         match board.store(at + i, bytes[i]) {
@@ -39,8 +39,8 @@ fn post_range<B: Board>(
     end: usize,
     slip: &Slip,
 ) -> Result<u64, Stopped>
-    requires { (first ≤ end) × (((l : ℕ) → l < end → l * width < (meaning board.old).size)) }
-    ensures { Carried width (posts first (end - first)) (meaning board.old) result (meaning board.new) }
+    requires { (first ≤ end) × (((l : ℕ) → l < end → l * B.width < (B.meaning board.old).size)) }
+    ensures { Carried B.width (posts first (end - first)) (B.meaning board.old) result (B.meaning board.new) }
 {
     for line in first..end {
         match board.post(line, slip) {
@@ -58,9 +58,9 @@ fn post_range<B: Board>(
 
 // Posts each line that holds one of `count` places from `at` on: at most as many lines as places.
 fn post_lines<B: Board>(board: &mut B, at: usize, count: usize, slip: &Slip) -> Result<u64, Stopped>
-    requires { OnBoard at count (meaning board.old).size }
-    ensures carried { Carried width (posts (at / width) (lines width at count)) (meaning board.old) result (meaning board.new) }
-    ensures few { lines width at count ≤ count }
+    requires { OnBoard at count (B.meaning board.old).size }
+    ensures carried { Carried B.width (posts (at / B.width) (lines B.width at count)) (B.meaning board.old) result (B.meaning board.new) }
+    ensures few { lines B.width at count ≤ count }
 {
     let width = board.line_size();
     let end = (at + (count - 1)) / width + 1;
@@ -74,8 +74,8 @@ fn store_and_post<B: Board>(
     bytes: &[u8],
     slip: &Slip,
 ) -> Result<u64, Stopped>
-    requires { OnBoard at (length bytes.now) (meaning board.old).size }
-    ensures { Carried width (stores_and_posts width at bytes.now) (meaning board.old) result (meaning board.new) }
+    requires { OnBoard at (length bytes.now) (B.meaning board.old).size }
+    ensures { Carried B.width (stores_and_posts B.width at bytes.now) (B.meaning board.old) result (B.meaning board.new) }
 {
     let stored = store_bytes(board, at, bytes)?;
     match post_lines(board, at, bytes.len(), slip) {
@@ -95,8 +95,8 @@ fn write_fitting<B: Board>(
     at: usize,
     bytes: &[u8],
 ) -> Result<u64, Stopped>
-    requires { OnBoard at (length bytes.now) (meaning board.old).size }
-    ensures { MatchResult result (λ k. Whole width at bytes.now (meaning board.old) k (meaning board.new)) (λ s. CutShort width at bytes.now (meaning board.old) s (meaning board.new)) }
+    requires { OnBoard at (length bytes.now) (B.meaning board.old).size }
+    ensures { MatchResult result (λ k. Whole B.width at bytes.now (B.meaning board.old) k (B.meaning board.new)) (λ s. CutShort B.width at bytes.now (B.meaning board.old) s (B.meaning board.new)) }
 {
     let written = store_and_post(board, at, bytes, &slip);
     let settled = board.settle(slip);
@@ -115,7 +115,7 @@ pub fn write_round<B: Board>(
     at: usize,
     bytes: &[u8],
 ) -> Result<u64, Stopped>
-    ensures { Round width at bytes.now (meaning board.old) result (meaning board.new) }
+    ensures { Round B.width at bytes.now (B.meaning board.old) result (B.meaning board.new) }
 {
     if bytes.is_empty() {
         slip.spend();

@@ -1,4 +1,6 @@
 // The numbers of the region's format, the marker of a frame, and where the parts of a frame lie.
+#![tactic(auto)]
+
 pub mod extent;
 pub mod marker;
 

@@ -1,5 +1,7 @@
 // The plain stack: what the persistent stack means, with its frames in ordinary memory and no place or pad. It is the reference that
 // tests compare with.
+#![tactic(auto)]
+
 ghost use Rattle.std.specs.Prelude.{◌≡◌, [], ◌∷◌, ◌++◌, MatchResult};
 ghost use Rattle.plain.specs.Frames.{fresh, noted, answered, with_top, without_top, empty, called, top_noted, above_bottom, given};
 ghost use Rattle.plain.specs.Stacks.{frame, all_frames, frames};

@@ -1,4 +1,6 @@
 // Programmes: what a show does at each step. A programme only chooses; it has no board and keeps nothing.
+#![tactic(auto)]
+
 ghost use Rattle.std.specs.Prelude.{◌≡◌, ℕ, ◌<◌, ◌≤◌, length, Option as Maybe, MatchResult};
 ghost use Rattle.plain.specs.Frames.{Frame};
 ghost use Rattle.layout.specs.Layout.{max_args};

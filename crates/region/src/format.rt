@@ -11,8 +11,8 @@ use model::faults::StackFault;
 
 // The three rounds: the region is blank, then its size and its bottom frame are written, and then it has its version.
 fn three_rounds<B: Board>(board: &mut B) -> Result<u64, StackFault>
-    requires { SizeAllowed (meaning board.old).size }
-    ensures { FormatCarried width (meaning board.old) result (meaning board.new) }
+    requires { SizeAllowed (B.meaning board.old).size }
+    ensures { FormatCarried B.width (B.meaning board.old) result (B.meaning board.new) }
 {
     let bytes = fresh_bytes(board.size() as u32);
     let slip = Slip::take();
@@ -27,7 +27,7 @@ fn three_rounds<B: Board>(board: &mut B) -> Result<u64, StackFault>
 // board whose size no region may have it is refused with 8, and the board stays. Where the power ends it, it is refused with 1 and
 // the number of writing calls carried out.
 pub fn format<B: Board>(board: &mut B) -> Result<u64, StackFault>
-    ensures { FormatAnswered width (meaning board.old) result (meaning board.new) }
+    ensures { FormatAnswered B.width (B.meaning board.old) result (B.meaning board.new) }
 {
     if !is_allowed(board.size()) {
         return Err(StackFault::BoardSize);

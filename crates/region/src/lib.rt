@@ -1,5 +1,7 @@
 // The byte format of a region that holds a stack: reading it over any board, the bytes that are written, and format. The plans of the
 // changes are definitions in specs/, with what a power cut leaves of one.
+#![tactic(auto)]
+
 ghost use Rattle.region.specs.Laws.{RegionLaws};
 
 pub mod format;

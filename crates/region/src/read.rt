@@ -19,7 +19,7 @@ use plain::{Answer, Progress};
 
 // The present byte; 0 past the board's end.
 fn byte_at<B: Board>(board: &B, place: usize) -> u8
-    ensures { result ≡ slice_index (bytes (meaning board.now)) place }
+    ensures { result ≡ slice_index (bytes (B.meaning board.now)) place }
 {
     match board.read(place) {
         Ok(byte) => byte,
@@ -30,7 +30,7 @@ fn byte_at<B: Board>(board: &B, place: usize) -> u8
 // Fills the slice with the present bytes from `at` on.
 fn fill<B: Board>(board: &B, at: usize, into: &mut [u8])
     requires { at + length into.old < 2 ^ 64 }
-    ensures { into.new ≡ part (bytes (meaning board.now)) at (length into.old) }
+    ensures { into.new ≡ part (bytes (B.meaning board.now)) at (length into.old) }
 {
     for i in 0..into.len() {
         into[i] = byte_at(board, at + i);
@@ -39,7 +39,7 @@ fn fill<B: Board>(board: &B, at: usize, into: &mut [u8])
 
 fn read_u16<B: Board>(board: &B, at: usize) -> u16
     requires { at + 2 < 2 ^ 64 }
-    ensures { result ≡ number (part (bytes (meaning board.now)) at 2) }
+    ensures { result ≡ number (part (bytes (B.meaning board.now)) at 2) }
 {
     let mut bytes = [0; 2];
     fill(board, at, &mut bytes);
@@ -48,7 +48,7 @@ fn read_u16<B: Board>(board: &B, at: usize) -> u16
 
 fn read_u32<B: Board>(board: &B, at: usize) -> u32
     requires { at + 4 < 2 ^ 64 }
-    ensures { result ≡ number (part (bytes (meaning board.now)) at 4) }
+    ensures { result ≡ number (part (bytes (B.meaning board.now)) at 4) }
 {
     let mut bytes = [0; SIZE_SIZE];
     fill(board, at, &mut bytes);
@@ -57,7 +57,7 @@ fn read_u32<B: Board>(board: &B, at: usize) -> u32
 
 fn read_u64<B: Board>(board: &B, at: usize) -> u64
     requires { at + 8 < 2 ^ 64 }
-    ensures { result ≡ number (part (bytes (meaning board.now)) at 8) }
+    ensures { result ≡ number (part (bytes (B.meaning board.now)) at 8) }
 {
     let mut bytes = [0; 8];
     fill(board, at, &mut bytes);
@@ -67,7 +67,7 @@ fn read_u64<B: Board>(board: &B, at: usize) -> u64
 // Reads the present bytes from `at` on into the lent slice. Where they would pass the board's end it is refused with 2, with the first
 // place outside, and the slice stays.
 pub fn read_bytes<B: Board>(board: &B, at: usize, into: &mut [u8]) -> Result<(), BoardFault>
-    ensures { BytesRead at into.old (meaning board.now) result into.new }
+    ensures { BytesRead at into.old (B.meaning board.now) result into.new }
 {
     let size = board.size();
     if at > size || into.len() > size - at {
@@ -89,7 +89,7 @@ pub struct PadContent {
 // The pad at a place; none if its tag is neither 0 nor 1.
 fn read_pad<B: Board>(board: &B, at: usize) -> Option<PadContent>
     requires { at + pad_size < 2 ^ 64 }
-    ensures { result ≡ pad_at (bytes (meaning board.now)) at }
+    ensures { result ≡ pad_at (bytes (B.meaning board.now)) at }
 {
     let answer = match byte_at(board, at) {
         NO_ANSWER => None,
@@ -135,7 +135,7 @@ fn keeps_kind_rule(below: usize, kind: u16, count: usize) -> bool
 
 // The frame that starts at a place, above so many others; none if it is damaged.
 fn head_at<B: Board>(board: &B, below: usize, first: usize) -> Option<FrameHead>
-    ensures { HeadRead (bytes (meaning board.now)) below first result }
+    ensures { HeadRead (bytes (B.meaning board.now)) below first result }
 {
     let size = board.size();
     if below >= MAX_FRAMES {
@@ -167,7 +167,7 @@ fn head_at<B: Board>(board: &B, below: usize, first: usize) -> Option<FrameHead>
 // Reads the frame that starts at place `first`, above `below` others, but for its argument bytes, which are the `count` bytes from
 // its `args_place` on. A damaged one is refused with 11 and its first place; what passes the board's end is not read.
 pub fn read_frame<B: Board>(board: &B, below: usize, first: usize) -> Result<FrameHead, StackFault>
-    ensures { FrameRead (bytes (meaning board.now)) below first result }
+    ensures { FrameRead (bytes (B.meaning board.now)) below first result }
 {
     match head_at(board, below, first) {
         Some(head) => Ok(head),
@@ -177,7 +177,7 @@ pub fn read_frame<B: Board>(board: &B, below: usize, first: usize) -> Result<Fra
 
 // The number of places.
 fn length<B: Board>(board: &B) -> usize
-    ensures { result ≡ length (bytes (meaning board.now)) }
+    ensures { result ≡ length (bytes (B.meaning board.now)) }
 {
     board.size()
 }
@@ -192,13 +192,13 @@ pub(crate) fn is_allowed(size: usize) -> bool
 }
 
 fn has_version<B: Board>(board: &B) -> bool
-    ensures { result ≡ has_version (bytes (meaning board.now)) }
+    ensures { result ≡ has_version (bytes (B.meaning board.now)) }
 {
     byte_at(board, VERSION_AT) == VERSION
 }
 
 fn has_size<B: Board>(board: &B) -> bool
-    ensures { result ≡ has_size (bytes (meaning board.now)) }
+    ensures { result ≡ has_size (bytes (B.meaning board.now)) }
 {
     read_u32(board, SIZE_AT) as usize == length(board)
 }
@@ -206,7 +206,7 @@ fn has_size<B: Board>(board: &B) -> bool
 // Checks the header: 8 the board's size is none that a region may have, 9 place 0 does not hold the version, 10 places 1 to 4 do not
 // hold the board's size.
 pub fn read_header<B: Board>(board: &B) -> Result<(), StackFault>
-    ensures { result ≡ header (bytes (meaning board.now)) }
+    ensures { result ≡ header (bytes (B.meaning board.now)) }
 {
     if !is_allowed(length(board)) {
         return Err(StackFault::BoardSize);

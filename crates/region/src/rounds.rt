@@ -26,8 +26,8 @@ pub(crate) fn next_round<B: Board>(
     at: usize,
     bytes: &[u8],
 ) -> Result<u64, StackFault>
-    requires { (OnBoard at (length bytes.now) (meaning board.old).size) × (before + (length bytes.now + length bytes.now + 1) < 2 ^ 64) }
-    ensures { Counted width before (round width at bytes.now) (meaning board.old) result (meaning board.new) }
+    requires { (OnBoard at (length bytes.now) (B.meaning board.old).size) × (before + (length bytes.now + length bytes.now + 1) < 2 ^ 64) }
+    ensures { Counted B.width before (round B.width at bytes.now) (B.meaning board.old) result (B.meaning board.new) }
 {
     match write_round(board, slip, at, bytes) {
         Ok(carried) => Ok(before + carried),

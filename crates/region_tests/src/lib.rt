@@ -1,5 +1,7 @@
 // Tests of the plain stack and of the region's format, at their edges. What holds at every input is proved in `plain` and `region`;
 // these are examples, run.
+#![tactic(auto)]
+
 #[cfg(test)]
 mod bytes;
 #[cfg(test)]

@@ -57,7 +57,7 @@ fn classify(found: &[u8; LEAST_SIZE]) -> Finding
 
 // The present bytes of places 0 to 43.
 fn first_places<B: Board>(board: &B) -> [u8; LEAST_SIZE]
-    ensures { least_size ≤ (meaning board.now).size → result ≡ part (bytes (meaning board.now)) 0 least_size }
+    ensures { least_size ≤ (B.meaning board.now).size → result ≡ part (bytes (B.meaning board.now)) 0 least_size }
 {
     let mut bytes = [0; LEAST_SIZE];
     let _ = read_bytes(board, 0, &mut bytes);
@@ -66,7 +66,7 @@ fn first_places<B: Board>(board: &B) -> [u8; LEAST_SIZE]
 
 // Formats the region, and answers how many writing calls were carried out.
 fn start_format<B: Board>(board: &mut B, supply: Option<u64>) -> u64
-    ensures { SizeAllowed (meaning board.old).size → StoppedFormat width supply result (meaning board.new) }
+    ensures { SizeAllowed (B.meaning board.old).size → StoppedFormat B.width supply result (B.meaning board.new) }
 {
     prepare(board, supply, 0, &BEFORE);
     match format(board) {
@@ -77,7 +77,7 @@ fn start_format<B: Board>(board: &mut B, supply: Option<u64>) -> u64
 
 // Formats the region and cuts the power, wanting the new bytes or the old ones, and answers what is found.
 fn found<B: Board>(board: &mut B, supply: u64, new: bool) -> Finding
-    ensures { SizeAllowed (meaning board.old).size → FormatShown width (Some supply) result (meaning board.new) }
+    ensures { SizeAllowed (B.meaning board.old).size → FormatShown B.width (Some supply) result (B.meaning board.new) }
 {
     let _ = start_format(board, Some(supply));
     cut(board, new);
@@ -86,7 +86,7 @@ fn found<B: Board>(board: &mut B, supply: u64, new: bool) -> Finding
 
 // Cuts the power: a board that follows the wanted bytes keeps the new ones, or the old ones.
 fn cut<B: Board>(board: &mut B, new: bool)
-    ensures { Cut None (meaning board.old) (meaning board.new) }
+    ensures { Cut None (B.meaning board.old) (B.meaning board.new) }
 {
     if new {
         let present = first_places(board);

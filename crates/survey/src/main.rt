@@ -1,5 +1,7 @@
 // What a power cut leaves, at every supply of power and on both makes of board: of an 8-byte record that is updated in one round of
 // writing, and of a region that is formatted in three.
+#![tactic(auto)]
+
 use board::line::{Cell, LineBoard};
 use board::through::ThroughBoard;
 use std::io;

@@ -18,8 +18,8 @@ pub(crate) const NEW: [u8; LEN] = *b"NEW+VOTE";
 
 // Settles the bytes from `at` on, and gives the power a supply.
 pub(crate) fn prepare<B: Board>(board: &mut B, supply: Option<u64>, at: usize, bytes: &[u8])
-    ensures size { (meaning board.new).size ≡ (meaning board.old).size }
-    ensures prepared { at + length bytes.now ≤ (meaning board.old).size → Prepared at bytes.now supply (meaning board.new) }
+    ensures size { (B.meaning board.new).size ≡ (B.meaning board.old).size }
+    ensures prepared { at + length bytes.now ≤ (B.meaning board.old).size → Prepared at bytes.now supply (B.meaning board.new) }
 {
     board.cut(&[], None);
     let slip = Slip::take();
@@ -29,7 +29,7 @@ pub(crate) fn prepare<B: Board>(board: &mut B, supply: Option<u64>, at: usize, b
 
 // Updates the record, and answers how many writing calls were carried out.
 pub(crate) fn update<B: Board>(board: &mut B, supply: Option<u64>) -> u64
-    ensures { record_end ≤ (meaning board.old).size → Updated width supply result (meaning board.new) }
+    ensures { record_end ≤ (B.meaning board.old).size → Updated B.width supply result (B.meaning board.new) }
 {
     prepare(board, supply, AT, &OLD);
     let slip = Slip::take();
@@ -41,7 +41,7 @@ pub(crate) fn update<B: Board>(board: &mut B, supply: Option<u64>) -> u64
 
 // The present byte at a place; 0 past the board's end.
 fn byte_at<B: Board>(board: &B, place: usize) -> u8
-    ensures { place < (meaning board.now).size → result ≡ present ((meaning board.now).at place) }
+    ensures { place < (B.meaning board.now).size → result ≡ present ((B.meaning board.now).at place) }
 {
     match board.read(place) {
         Ok(byte) => byte,
@@ -51,7 +51,7 @@ fn byte_at<B: Board>(board: &B, place: usize) -> u8
 
 // Reads the record.
 fn read<B: Board>(board: &B) -> [u8; LEN]
-    ensures { record_end ≤ (meaning board.now).size → Shown (meaning board.now) result }
+    ensures { record_end ≤ (B.meaning board.now).size → Shown (B.meaning board.now) result }
 {
     let mut bytes = [0; LEN];
     for i in 0..LEN {
@@ -73,8 +73,8 @@ fn image(wanted: &[u8; LEN]) -> [u8; END]
 
 // Updates the record, cuts the power with these bytes wanted where the record is, and answers what it holds then.
 pub(crate) fn found<B: Board>(board: &mut B, supply: Option<u64>, wanted: &[u8; LEN]) -> [u8; LEN]
-    ensures found { record_end ≤ (meaning board.old).size → Found width supply result (meaning board.new) }
-    ensures either { record_end ≤ (meaning board.old).size → OldOrNew result }
+    ensures found { record_end ≤ (B.meaning board.old).size → Found B.width supply result (B.meaning board.new) }
+    ensures either { record_end ≤ (B.meaning board.old).size → OldOrNew result }
 {
     let _ = update(board, supply);
     board.cut(&image(wanted), None);

@@ -7,7 +7,7 @@ use Rattle.plain.proofs.answer_top.Goals as goal
 pub returns-then-n-gt0 : goal.returns-then-n-gt0
 returns-then-n-gt0 c =
     map_set_top frame (answered c.args.answer) (vec_items c.args.all.now) c.len-n.result _ _ c.if-n-gt0.true (c.len-n.ensures ∙ c.args.all.now.ok.0)
-    (ap (λ x. answered c.args.answer (frame x)) c.index-mut-top.ensures.value)
+    (ap (λ x. answered c.args.answer (frame x)) c.index_mut-top.ensures.value)
 
 pub returns-else-n-gt0 : goal.returns-else-n-gt0
 returns-else-n-gt0 c = map_none frame (answered c.args.answer) (vec_items c.args.all.now) c.len-n.result c.if-n-gt0.false (c.len-n.ensures ∙ c.args.all.now.ok.0)

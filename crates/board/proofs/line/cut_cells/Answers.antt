@@ -7,7 +7,7 @@ pub loop-i-init : goal.loop-i-init
 loop-i-init c = swept_none _ _ _
 
 pub loop-i-preserved : goal.loop-i-preserved
-loop-i-preserved c = swept_more (CutBy c.args.wanted.now) _ _ _ _ _ (omega arith) (omega arith) c.loop-i.invariant (search rules, c.after-cut-cell.ensures.may)
+loop-i-preserved c = swept_more (CutBy c.args.wanted.now) _ _ _ _ _ (omega arith) (omega arith) c.loop-i.invariant (search rules, c.after_cut-cell.ensures.may)
 
 pub returns : goal.returns
 returns c =

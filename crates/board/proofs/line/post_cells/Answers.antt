@@ -6,5 +6,5 @@ use Rattle.board.proofs.line.post_cells.Goals as goal
 
 pub returns : goal.returns
 returns c =
-    let table = c.mark-line.ensures in
+    let table = c.mark_line.ensures in
     record { table = table; may = subst (TableAfter (post c.args.line) c.args.cells.now) (sym table) (posted_may c.args.line c.args.cells.now) }

@@ -10,7 +10,7 @@ pub loop-i-init : goal.loop-i-init
 loop-i-init c = swept_none _ _ _
 
 pub loop-i-preserved : goal.loop-i-preserved
-loop-i-preserved c = swept_more (By (λ _ c. after_settle c)) _ _ _ _ _ (omega arith) (omega arith) c.loop-i.invariant c.after-settle-cell.ensures
+loop-i-preserved c = swept_more (By (λ _ c. after_settle c)) _ _ _ _ _ (omega arith) (omega arith) c.loop-i.invariant c.after_settle-cell.ensures
 
 pub returns : goal.returns
 returns c =

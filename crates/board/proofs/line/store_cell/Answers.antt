@@ -9,5 +9,5 @@ returns c =
     let p = c.args.place in
     let b = c.args.byte in
     let cs = c.args.cells.now in
-    let table : set c.mark-line.new.cells p c.after-store-cell.result ≡ stored_table p b cs = cc in
+    let table : set c.mark_line.new.cells p c.after_store-cell.result ≡ stored_table p b cs = cc in
     record { table = table; may = subst (TableAfter (store p b) cs) (sym table) (stored_may p b cs c.requires) }

@@ -10,8 +10,8 @@ loop-i-preserved g c =
     let i = c.loop-i.i in
     let into = c.loop-i.into in
     let shown : ℕ → ℕ = λ k. get_or (bytes m) (c.args.at + k) 0 in (
-      length-set into i c.byte-at.result ∙ c.loop-i.invariant.0,
-      subst (λ b. (k : ℕ) → k < i + 1 → get_or (set into i b) k 0 ≡ shown k) (sym c.byte-at.ensures)
+      length-set into i c.byte_at.result ∙ c.loop-i.invariant.0,
+      subst (λ b. (k : ℕ) → k < i + 1 → get_or (set into i b) k 0 ≡ shown k) (sym c.byte_at.ensures)
           (fill_by_more shown into i 0 (omega (arith, c.loop-i.invariant.0)) c.loop-i.invariant.1),
     )
 

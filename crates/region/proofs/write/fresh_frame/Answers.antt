@@ -11,9 +11,9 @@ returns c =
     (grown c.append-5.ensures.grown
     (grown c.append-4.ensures.grown
     (grown c.append-3.ensures.grown
-    (grown c.append-2.ensures.grown (grown c.append.ensures.grown c.new-frame.ensures.empty c.u16-bytes.ensures) c.u16-bytes-2.ensures)
+    (grown c.append-2.ensures.grown (grown c.append.ensures.grown c.new-frame.ensures.empty c.u16_bytes.ensures) c.u16_bytes-2.ensures)
     refl)
-    (c.as-slice.ensures ∙ c.pad-bytes-pad.ensures))
-    (c.as-slice-2.ensures ∙ c.pad-bytes-pad.ensures))
+    (c.as_slice.ensures ∙ c.pad_bytes-pad.ensures))
+    (c.as_slice-2.ensures ∙ c.pad_bytes-pad.ensures))
     (ap (λ b. b ∷ []) c.byte.ensures)
     ∙ frame_pieces (spelled count_size (length c.args.args.now)) (spelled kind_size c.args.kind) c.args.args.now zero_pad (1 ∷ [])

@@ -11,7 +11,7 @@ loop-i-preserved g c =
     let i = c.loop-i.i in
     let bytes = c.loop-i.bytes in
     let shown : ℕ → ℕ = λ k. present (m.at (record_at + k)) in (
-      length-set bytes i c.byte-at.result ∙ c.loop-i.invariant.0,
-      λ long. subst (λ b. (k : ℕ) → k < i + 1 → get_or (set bytes i b) k 0 ≡ shown k) (sym (c.byte-at.ensures (omega arith)))
+      length-set bytes i c.byte_at.result ∙ c.loop-i.invariant.0,
+      λ long. subst (λ b. (k : ℕ) → k < i + 1 → get_or (set bytes i b) k 0 ≡ shown k) (sym (c.byte_at.ensures (omega arith)))
           (fill_by_more shown bytes i 0 (omega arith) (c.loop-i.invariant.1 long)),
     )
