@@ -40,7 +40,7 @@ BY_HAND = {
     "getD-each-from": "get_or-each_from",
     "getD-posts": "get_or-posts",
     "getD-stores": "get_or-stores",
-    "getD_part": "get_or-part",
+    "get_d_part": "get_or-part",
     "bytes-getD": "Bytes-get_or",
     "bytes-part": "Bytes-part",
     "bytes-spelled": "Bytes-spelled",

@@ -1,5 +1,5 @@
 -- The line board's table of cells: what it means, and what each call leaves of it.
-use Rattle.std.specs.Prelude.{◌≡◌, ℕ, suc, ◌/◌, ◌<◌, Bool, true, false, cond, List, [], ◌∷◌, map, length, set, is_ok, Result, ◌==◌, slice_index_or, slice_set}
+use Rattle.std.specs.Prelude.{◌≡◌, ℕ, suc, ◌/◌, ◌<◌, Bool, true, false, cond, List, [], ◌∷◌, map, length, is_ok, Result, ◌==◌, slice_index_or, slice_set}
 use Rattle.model.specs.declared.faults.BoardFault.{BoardFault}
 use Rattle.model.specs.Places.{AfterCut}
 use Rattle.model.specs.Writes.{Meaning, Write, After}

@@ -2,7 +2,7 @@
 use Rattle.std.specs.Prelude.{ℕ, ◌+◌, ◌-◌, ◌*◌, ◌/◌, ◌%◌, ◌^◌, min, cond, List, [], ◌∷◌, Some, None, Option, ◌==◌, nat_lt}
 use Rattle.plain.specs.declared.Answer.{Answer}
 use Rattle.plain.specs.declared.Progress.{Progress}
-use Rattle.plain.specs.Frames.{Frame, call, note, give}
+use Rattle.plain.specs.Frames.{call, note, give}
 use Rattle.region.specs.Numbers.{number}
 use Rattle.programme.specs.declared.trail.QuizArgs.{QuizArgs}
 use Rattle.programme.specs.declared.trail.QuestionArgs.{QuestionArgs}

@@ -1,5 +1,5 @@
 -- What a programme's table says, and what is answered by it.
-use Rattle.std.specs.Prelude.{◌≡◌, ℕ, ◌<◌, ◌≤◌, Bool, true, false, List, [], ◌∷◌, ◌++◌, length, drop, Some, None, Ok, Err, MatchBool, Option, Result, MatchResult, nat_lt}
+use Rattle.std.specs.Prelude.{◌≡◌, ℕ, ◌<◌, ◌≤◌, List, [], ◌∷◌, ◌++◌, length, drop, Some, None, Ok, MatchBool, Option, Result, MatchResult, nat_lt}
 use Rattle.plain.specs.declared.Answer.{Answer}
 use Rattle.plain.specs.declared.Progress.{Progress}
 use Rattle.plain.specs.Frames.{Frame, Change, call, note, give}
@@ -31,7 +31,7 @@ bottom_kind = 0
 -- the verdict on a frame whose kind has no arguments; with any, 13
 abbrev pub without_args : List ℕ → Verdict → Verdict
 without_args [] v = v
-without_args (a ∷ as) v = wrong_arguments
+without_args (a ∷ xs) v = wrong_arguments
 
 -- the verdict by the record that a frame's arguments hold; if they hold none, 13
 abbrev pub by_record : {A : Type 0} → Option A → (A → Verdict) → Verdict

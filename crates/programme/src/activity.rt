@@ -44,7 +44,7 @@ pub trait Activity {
 // Chooses to call an activity with these arguments, whose bytes are written to the buffer's front. A buffer without room for them
 // is refused with 14, and stays.
 pub fn call<T: Activity>(args: &T::Args, out: &mut [u8]) -> Result<Choice, ProgrammeFault>
-    ensures { Written (T.Args.ArgumentRecord.image args.now) (Call code (length (T.Args.ArgumentRecord.image args.now))) out.old result out.new }
+    ensures { Written (T.Args.ArgumentRecord.image args.now) (Call T.code (length (T.Args.ArgumentRecord.image args.now))) out.old result out.new }
 {
     let count = args.write(out)?;
     Ok(Choice::Call {

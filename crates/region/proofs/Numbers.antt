@@ -66,10 +66,10 @@ pub length-part : (bs : List ℕ) (p k : ℕ) → length (part bs p k) ≡ k
 length-part bs p zero = refl
 length-part bs p (suc k) = ap suc (length-part bs (suc p) k)
 
-pub get_d_part : (bs : List ℕ) (p k i : ℕ) → i < k → get_or (part bs p k) i 0 ≡ get_or bs (p + i) 0
-get_d_part bs p zero i lt = absurd (omega arith)
-get_d_part bs p (suc k) zero lt = let e : p ≡ p + 0 = omega arith in ap (λ q. get_or bs q 0) e
-get_d_part bs p (suc k) (suc i) lt = let e : suc p + i ≡ p + suc i = omega arith in get_d_part bs (suc p) k i (omega arith) ∙ ap (λ q. get_or bs q 0) e
+pub get_or-part : (bs : List ℕ) (p k i : ℕ) → i < k → get_or (part bs p k) i 0 ≡ get_or bs (p + i) 0
+get_or-part bs p zero i lt = absurd (omega arith)
+get_or-part bs p (suc k) zero lt = let e : p ≡ p + 0 = omega arith in ap (λ q. get_or bs q 0) e
+get_or-part bs p (suc k) (suc i) lt = let e : suc p + i ≡ p + suc i = omega arith in get_or-part bs (suc p) k i (omega arith) ∙ ap (λ q. get_or bs q 0) e
 
 pub Bytes-get_or : (bs : List ℕ) (i : ℕ) → Bytes bs → get_or bs i 0 < 256
 Bytes-get_or [] i h = omega arith
@@ -83,4 +83,4 @@ Bytes-part bs p (suc k) h = (Bytes-get_or bs p h, Bytes-part bs (suc p) k h)
 -- a list of the k bytes from p on
 pub part_by : (bs cs : List ℕ) (p k : ℕ) → length cs ≡ k → ((i : ℕ) → i < k → get_or cs i 0 ≡ get_or bs (p + i) 0) → cs ≡ part bs p k
 part_by bs cs p k l h =
-    ext_get_or 0 cs (part bs p k) (l ∙ sym (length-part bs p k)) (λ i lt. let lt2 : i < k = omega (arith, lt, l) in h i lt2 ∙ sym (get_d_part bs p k i lt2))
+    ext_get_or 0 cs (part bs p k) (l ∙ sym (length-part bs p k)) (λ i lt. let lt2 : i < k = omega (arith, lt, l) in h i lt2 ∙ sym (get_or-part bs p k i lt2))

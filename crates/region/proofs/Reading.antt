@@ -12,13 +12,13 @@ use Rattle.region.specs.Numbers.{number, spelled, part, Bytes}
 use Rattle.layout.specs.Layout.{least_size, greatest_size, max_frames, max_args, version, version_at, size_at, size_size, frames_at, with_answer, answer_size, progress_size, answer_place, progress_place, count_size, kind_size, kind_place, args_place, pad_place, marker_place, frame_size, marker_byte, marker_limit, is_last, live_pad}
 use Rattle.region.specs.Frames.{Located, count, Laid, PadLaid, FrameLaid, FramesLaid, kind_rule, AnswerFits, WellPlaced, InRow}
 use Rattle.region.specs.Reading.{count_at, kind_at, marker_at, live_at, tag_at, answer_at, progress_at, undamaged, frame_at, before, frames_from, read, Found, Spells}
-use Rattle.region.proofs.Numbers.{length-spelled, number-spelled, number_below, spelled-number, length-part, get_d_part, Bytes-part}
+use Rattle.region.proofs.Numbers.{length-spelled, number-spelled, number_below, spelled-number, length-part, get_or-part, Bytes-part}
 
 -- bytes that lie in the region are read
 part_found : (bs : List ℕ) (p : ℕ) (cs : List ℕ) → Laid (Found bs) p cs → part bs p (length cs) ≡ cs
 part_found bs p cs h =
     ext_get_or 0 (part bs p (length cs)) cs (length-part bs p (length cs))
-    (λ i lt. let l : i < length cs = omega (arith, length-part bs p (length cs)) in get_d_part bs p (length cs) i l ∙ h i l)
+    (λ i lt. let l : i < length cs = omega (arith, length-part bs p (length cs)) in get_or-part bs p (length cs) i l ∙ h i l)
 
 number_found : (bs : List ℕ) (p k v : ℕ) → Laid (Found bs) p (spelled k v) → v < 256 ^ k → number (part bs p k) ≡ v
 number_found bs p k v h lt =
@@ -124,7 +124,7 @@ spelled_read bs fs s =
 
 -- The other way: what is read is spelled.
 part_laid : (bs : List ℕ) (p k : ℕ) → Laid (Found bs) p (part bs p k)
-part_laid bs p k i lt = sym (get_d_part bs p k i (omega (arith, lt, length-part bs p k)))
+part_laid bs p k i lt = sym (get_or-part bs p k i (omega (arith, lt, length-part bs p k)))
 
 number_laid : (bs : List ℕ) (p k : ℕ) → Bytes bs → Laid (Found bs) p (spelled k (number (part bs p k)))
 number_laid bs p k h = subst (Laid (Found bs) p) (sym (spelled-number k (part bs p k) (Bytes-part bs p k h) (length-part bs p k))) (part_laid bs p k)

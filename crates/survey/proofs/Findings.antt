@@ -14,7 +14,7 @@ use Rattle.region.specs.Frames.{SizeAllowed}
 use Rattle.region.specs.Plans.{bottom, blank, fill, format_plan}
 use Rattle.region.specs.Cuts.{Finds, IsAsBefore, FormatFound, Blank as FoundBlank}
 use Rattle.region.specs.Operations.{Formatted, FormatStopped, FormatRefused}
-use Rattle.region.proofs.Numbers.{length-part, get_d_part}
+use Rattle.region.proofs.Numbers.{length-part, get_or-part}
 use Rattle.region.proofs.Formats.{format_cut}
 use Rattle.survey.specs.declared.formats.Finding.{Finding}
 use Rattle.survey.specs.declared.formats.Finding.TheVariants.{AsBefore, Blank, Empty}
@@ -58,7 +58,7 @@ module _ (s : Option ℕ) (m o : Meaning) (p : Prepared 0 before_bytes s m) (lon
   seen_at : (k a : ℕ) → k < least_size → o.at k ≡ settled a → get_or bs k 0 ≡ a
   seen_at k a lt e =
       let z : 0 + k ≡ k = omega arith in
-      ap (λ xs. get_or xs k 0) seen ∙ (get_d_part (bytes o) 0 least_size k lt ∙ (ap (λ q. get_or (bytes o) q 0) z ∙ (byte_at o k (omega arith) ∙ ap present e)))
+      ap (λ xs. get_or xs k 0) seen ∙ (get_or-part (bytes o) 0 least_size k lt ∙ (ap (λ q. get_or (bytes o) q 0) z ∙ (byte_at o k (omega arith) ∙ ap present e)))
 
   same_places : IsAsBefore m o → Shows AsBefore o
   same_places h k lt = h.places k (get_or before_bytes k 0) (omega (arith, p.room)) (let z : k ≡ 0 + k = omega arith in ap m.at z ∙ p.places k lt)
