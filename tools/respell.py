@@ -24,13 +24,13 @@ BY_HAND = {
     "length-rewritten": "length-rewritten",
     "length-spelled": "length-spelled",
     "length-stores": "length-stores",
-    "length_part": "length-part",
+    "length_part": "length-part",  # port.py had turned it
     "length-with-top": "length-with_top",
     "length-line": "length-with_line",
     "length-frame": "length-frame_bytes",
     "length-pad": "length-pad_bytes",
     "length-fresh": "length-fresh_bytes",
-    "number_spelled": "number-spelled",
+    "number_spelled": "number-spelled",  # port.py had turned it
     "spelled-number": "spelled-number",
     "plain-after": "plain-after",
     "plain-extended": "plain-extended",
@@ -40,7 +40,7 @@ BY_HAND = {
     "getD-each-from": "get_or-each_from",
     "getD-posts": "get_or-posts",
     "getD-stores": "get_or-stores",
-    "get_d_part": "get_or-part",
+    "get_d_part": "get_or-part",  # port.py had turned it
     "bytes-getD": "Bytes-get_or",
     "bytes-part": "Bytes-part",
     "bytes-spelled": "Bytes-spelled",
