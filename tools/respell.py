@@ -59,6 +59,8 @@ def files(pattern):
 def spelled(name):
     if name in BY_HAND:
         return BY_HAND[name]
+    if name in BY_HAND.values():
+        return name
     if name[0].isupper():
         first, *rest = name.split("-")
         return first + "".join(w[:1].upper() + w[1:] for w in rest)
