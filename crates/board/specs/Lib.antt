@@ -1,4 +1,5 @@
 pub mod Supply
+pub mod Tables
 pub mod Cells
 pub mod Lines
 pub mod Through

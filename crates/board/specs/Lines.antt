@@ -1,6 +1,5 @@
 -- The line board's table of cells: what it means, and what each call leaves of it.
-use Rattle.std.specs.Prelude.{◌≡◌, ℕ, suc, ◌/◌, ◌<◌, Bool, true, false, cond, List, [], ◌∷◌, map, length, is_ok, Result, ◌==◌, slice_index_or, slice_set}
-use Rattle.model.specs.declared.faults.BoardFault.{BoardFault}
+use Rattle.std.specs.Prelude.{◌≡◌, ℕ, suc, ◌/◌, ◌<◌, Bool, true, false, cond, List, [], ◌∷◌, map, length, ◌==◌, slice_index_or, slice_set}
 use Rattle.model.specs.Places.{AfterCut}
 use Rattle.model.specs.Writes.{Meaning, Write, After}
 use Rattle.board.specs.declared.line.Cell.{Cell}
@@ -15,14 +14,15 @@ line_width = 64
 abbrev pub line_board : LineBoard → Meaning
 line_board b = record { size = length b.cells.now; at = λ k. place_of (slice_index_or b.cells.now k blank); supply = b.supply }
 
--- the board's table after a call: f of the table before if it was granted, else that table
-abbrev pub Leaves : Result (Unit {0}) BoardFault → (List Cell → List Cell) → LineBoard → LineBoard → Type 0
-Leaves r f b c = c.cells.now ≡ cond (is_ok r) (f b.cells.now) b.cells.now
-
 -- each cell by its place, the first at k
 abbrev pub each : (ℕ → Cell → Cell) → ℕ → List Cell → List Cell
 each f k [] = []
 each f k (c ∷ cs) = f k c ∷ each f (suc k) cs
+
+-- a table of as many cells, each of which R allows of the cell that stood at its place k
+pub record ChangedBy (R : ℕ → Cell → Cell → Type 0) (xs ys : List Cell) : Type 0 where
+  pub size : length ys ≡ length xs
+  pub places : (k : ℕ) → k < length xs → R k (slice_index_or xs k blank) (slice_index_or ys k blank)
 
 -- the posting of line l set, the other lines as they are
 abbrev pub with_line : Bool → ℕ → List Cell → List Cell

@@ -3,11 +3,16 @@ use Rattle.std.specs.Prelude.{◌≡◌, ℕ, ◌+◌, ◌^◌, ◌<◌, ◌≤�
 use Rattle.model.specs.Writes.{Meaning, bytes, Write, Ran, Broken}
 use Rattle.model.specs.Rounds.{round, overwritten}
 use Rattle.board.specs.declared.rounds.Stopped.{Stopped}
+use Rattle.model.specs.declared.faults.BoardFault.{BoardFault}
 use Rattle.model.specs.Faults.{Fault}
 
 -- there are n places from p on, at least one, on a board of that size, and their numbers fit a machine word
 abbrev pub OnBoard : ℕ → ℕ → ℕ → Type 0
 OnBoard p n size = (0 < n) × (p + n ≤ size) × (p + n < 2 ^ 64)
+
+-- the n places from p on lie on a board of that size; else 2, with the first place outside
+abbrev pub Checked : ℕ → ℕ → ℕ → Result (Unit {0}) BoardFault → Type 0
+Checked p n size r = MatchResult r (λ _. p + n ≤ size) (λ e. (size < p + n) × Fault 2 (max p size) e)
 
 -- calls that all lie on the board: carried out, with their number, or ended by the power
 abbrev pub Carried : ℕ → List Write → Meaning → Result ℕ Stopped → Meaning → Type 0

@@ -1,6 +1,5 @@
 -- The through board: every place is settled at its byte.
-use Rattle.std.specs.Prelude.{◌≡◌, ℕ, cond, List, length, is_ok, Result, slice_index, slice_set}
-use Rattle.model.specs.declared.faults.BoardFault.{BoardFault}
+use Rattle.std.specs.Prelude.{ℕ, List, length, slice_index, slice_set}
 use Rattle.model.specs.Places.{settled}
 use Rattle.model.specs.Writes.{Meaning}
 use Rattle.board.specs.declared.through.ThroughBoard.{ThroughBoard}
@@ -12,10 +11,6 @@ through_width = 1
 -- what a through board means
 abbrev pub through_board : ThroughBoard → Meaning
 through_board b = record { size = length b.bytes.now; at = λ k. settled (slice_index b.bytes.now k); supply = b.supply }
-
--- the board's bytes after a call: f of the bytes before if it was granted, else those
-abbrev pub Leaves : Result (Unit {0}) BoardFault → (List ℕ → List ℕ) → ThroughBoard → ThroughBoard → Type 0
-Leaves r f b c = c.bytes.now ≡ cond (is_ok r) (f b.bytes.now) b.bytes.now
 
 -- a store sets its byte; a post, a settle and a cut change none
 abbrev pub stored_bytes : ℕ → ℕ → List ℕ → List ℕ

@@ -1,9 +1,10 @@
 // A memory board that may lose power between any two calls.
 #![tactic(auto)]
 
-ghost use Rattle.std.specs.Prelude.{◌≡◌, ℕ, ◌≤◌};
+ghost use Rattle.std.specs.Prelude.{◌≡◌, ℕ, ◌^◌, ◌<◌, ◌≤◌};
 ghost use Rattle.model.specs.Writes.{Meaning, store, post, settle, Cut};
 ghost use Rattle.model.specs.Calls.{Wrote, Answered};
+ghost use Rattle.board.specs.Rounds.{Checked};
 
 pub mod line;
 pub mod rounds;
@@ -31,8 +32,6 @@ impl Slip {
 pub trait Board {
     // L, the number of places in a line
     ghost width: { ℕ };
-
-    ghost bounded: { (1 ≤ width) × (width ≤ 4096) };
 
     ghost meaning: { Self → Meaning };
 
@@ -63,4 +62,21 @@ pub trait Board {
     // The power goes, and comes back with a new supply. What was loose may be lost; the make decides, and may follow the wanted bytes.
     fn cut(&mut self, wanted: &[u8], supply: Option<u64>)
         ensures { Cut supply (meaning self.old) (meaning self.new) };
+
+    // What L may be.
+    ghost bounded: { (1 ≤ width) × (width ≤ 4096) };
+}
+
+// Refuses a stretch of `count` places from `at` on that passes the board's end with 2 and the first place outside.
+pub fn check_places<B: Board>(board: &B, at: usize, count: usize) -> Result<(), BoardFault>
+    ensures checked { Checked at count (B.meaning board.now).size result }
+    ensures fits { (B.meaning board.now).size < 2 ^ 64 }
+{
+    let size = board.size();
+    if at > size || count > size - at {
+        return Err(BoardFault::Outside {
+            given: at.max(size),
+        });
+    }
+    Ok(())
 }

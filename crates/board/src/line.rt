@@ -4,8 +4,9 @@ ghost use Rattle.std.proofs.Common.{lit≤};
 ghost use Rattle.model.specs.Places.{AfterCut, is_loose};
 ghost use Rattle.model.specs.Writes.{Cut, loose_at, store, post, settle};
 ghost use Rattle.model.specs.Calls.{Wrote};
+ghost use Rattle.board.specs.Tables.{Leaves};
 ghost use Rattle.board.specs.Cells.{place_of, settled_at, after_store, after_settle, after_cut};
-ghost use Rattle.board.specs.Lines.{line_width, line_board, Leaves, with_line, new_table, stored_table, posted_table, settled_table, cut_table, TableAfter, TableCut};
+ghost use Rattle.board.specs.Lines.{line_width, line_board, ChangedBy, with_line, new_table, stored_table, posted_table, settled_table, cut_table, TableAfter, TableCut};
 
 use crate::supply::draw;
 use crate::{Board, Slip};
@@ -15,7 +16,7 @@ use model::faults::BoardFault;
 const WIDTH: usize = 64;
 
 // How often a cell was stored at since it was settled. More than once, the byte that lasts below is unknown.
-#[derive(Clone, Copy)]
+#[derive(Clone, Copy, PartialEq, Eq, Debug)]
 pub enum Stores {
     Never,
     Once,
@@ -23,7 +24,8 @@ pub enum Stores {
 }
 
 // One place: its present byte, the byte it was settled at, the stores since then, and whether its line was posted.
-#[derive(Clone, Copy)]
+// kept: the project gives a cell these four parts, so the byte and the posting are no payload of `Stores`.
+#[derive(Clone, Copy, PartialEq, Eq, Debug)]
 pub struct Cell {
     present: u8,
     settled: u8,
@@ -47,10 +49,7 @@ impl Cell {
     fn is_loose(self) -> bool
         ensures { result ≡ is_loose (place_of self) }
     {
-        match self.stores {
-            Stores::Never => false,
-            _ => true,
-        }
+        self.stores != Stores::Never
     }
 
     // After a store.
@@ -99,6 +98,16 @@ impl Cell {
     }
 }
 
+// Changes each cell, by its place in the slice.
+fn change_each<F: Fn(usize, Cell) -> Cell>(cells: &mut [Cell], change: F)
+    requires { F.IsAlwaysCallable change }
+    ensures { ChangedBy (F.post change) cells.old cells.new }
+{
+    for (place, cell) in cells.iter_mut().enumerate() {
+        *cell = change(place, *cell);
+    }
+}
+
 // Sets the posting of the cells of a line.
 fn mark_line(cells: &mut [Cell], line: usize, posted: bool)
     requires { line * line_width < length cells.old }
@@ -106,9 +115,7 @@ fn mark_line(cells: &mut [Cell], line: usize, posted: bool)
 {
     let first = line * WIDTH;
     let end = first + WIDTH.min(cells.len() - first);
-    for i in first..end {
-        cells[i].posted = posted;
-    }
+    change_each(&mut cells[first..end], |_, cell| Cell { posted, ..cell });
 }
 
 // Stores a byte.
@@ -123,6 +130,7 @@ fn store_cell(cells: &mut [Cell], place: usize, byte: u8)
 }
 
 // Posts a line.
+#[tactic(auto, using(crate::proofs::Tables::posted_may))]
 fn post_cells(cells: &mut [Cell], line: usize)
     requires { line * line_width < length cells.old }
     ensures table { cells.new ≡ posted_table line cells.old }
@@ -136,10 +144,7 @@ fn settle_cells(cells: &mut [Cell])
     ensures table { cells.new ≡ settled_table cells.old }
     ensures may { TableAfter settle cells.old cells.new }
 {
-    for i in 0..cells.len() {
-        let cell = cells[i].after_settle();
-        cells[i] = cell;
-    }
+    change_each(cells, |_, cell| cell.after_settle());
 }
 
 // What a power cut leaves of each cell.
@@ -147,22 +152,20 @@ fn cut_cells(cells: &mut [Cell], wanted: &[u8])
     ensures table { cells.new ≡ cut_table wanted.now cells.old }
     ensures may { TableCut cells.old cells.new }
 {
-    for i in 0..cells.len() {
-        let cell = cells[i].after_cut(wanted.get(i).copied());
-        cells[i] = cell;
-    }
+    change_each(
+        cells,
+        |place, cell| cell.after_cut(wanted.get(place).copied()),
+    );
 }
 
 // Settles each cell at its present byte.
 fn settle_all(cells: &mut [Cell])
     ensures { cells.new ≡ new_table cells.old }
 {
-    for i in 0..cells.len() {
-        let cell = Cell::settled_at(cells[i].present);
-        cells[i] = cell;
-    }
+    change_each(cells, |_, cell| Cell::settled_at(cell.present));
 }
 
+// kept: what it shares with the through board (size, guards, supply) is short, and the project asks each make to show the trait itself.
 #[derive(Drop)]
 pub struct LineBoard<'a> {
     cells: &'a mut [Cell],
@@ -205,15 +208,16 @@ impl Board for LineBoard<'_> {
     }
 
     fn read(&self, place: usize) -> Result<u8, BoardFault> {
-        if place < self.size() {
-            Ok(self.cells[place].present)
-        } else {
-            Err(BoardFault::Outside { given: place })
-        }
+        let cell = self
+            .cells
+            .get(place)
+            .ok_or(BoardFault::Outside { given: place })?;
+        Ok(cell.present)
     }
 
     fn store(&mut self, place: usize, byte: u8) -> Result<(), BoardFault>
-        ensures { (Wrote line_width (store place byte) (line_board self.old) result (line_board self.new)) × (Leaves result (stored_table place byte) self.old self.new) }
+        ensures wrote { Wrote line_width (store place byte) (line_board self.old) result (line_board self.new) }
+        ensures leaves { Leaves result (stored_table place byte) self.old.cells.now self.new.cells.now }
     {
         if place >= self.size() {
             return Err(BoardFault::Outside { given: place });
@@ -224,7 +228,8 @@ impl Board for LineBoard<'_> {
     }
 
     fn post(&mut self, line: usize, slip: &Slip) -> Result<(), BoardFault>
-        ensures { (Wrote line_width (post line) (line_board self.old) result (line_board self.new)) × (Leaves result (posted_table line) self.old self.new) }
+        ensures wrote { Wrote line_width (post line) (line_board self.old) result (line_board self.new) }
+        ensures leaves { Leaves result (posted_table line) self.old.cells.now self.new.cells.now }
     {
         let size = self.size();
         if size == 0 || line > (size - 1) / WIDTH {
@@ -236,7 +241,8 @@ impl Board for LineBoard<'_> {
     }
 
     fn settle(&mut self, slip: Slip) -> Result<(), BoardFault>
-        ensures { (Wrote line_width settle (line_board self.old) result (line_board self.new)) × (Leaves result settled_table self.old self.new) }
+        ensures wrote { Wrote line_width settle (line_board self.old) result (line_board self.new) }
+        ensures leaves { Leaves result settled_table self.old.cells.now self.new.cells.now }
     {
         slip.spend();
         self.supply = draw(self.supply)?;
@@ -245,7 +251,8 @@ impl Board for LineBoard<'_> {
     }
 
     fn cut(&mut self, wanted: &[u8], supply: Option<u64>)
-        ensures { (Cut supply (line_board self.old) (line_board self.new)) × (self.new.cells.now ≡ cut_table wanted.now self.old.cells.now) }
+        ensures cut { Cut supply (line_board self.old) (line_board self.new) }
+        ensures leaves { self.new.cells.now ≡ cut_table wanted.now self.old.cells.now }
     {
         cut_cells(self.cells, wanted);
         self.supply = supply;

@@ -3,31 +3,27 @@ ghost use Rattle.std.specs.Prelude.{ℕ, ◌-◌, ◌*◌, ◌/◌, ◌<◌, ◌
 ghost use Rattle.model.specs.Rounds.{stores, posts, lines, stores_and_posts};
 ghost use Rattle.board.specs.Rounds.{OnBoard, Carried, Whole, CutShort, Round};
 
-use crate::{Board, Slip};
+use crate::{Board, Slip, check_places};
 use model::faults::BoardFault;
 
 // A round that was refused: the fault, and how many of the round's writing calls were carried out before it.
-#[derive(Clone, Copy)]
+#[derive(Clone, Copy, PartialEq, Eq, Debug)]
 pub struct Stopped {
     pub carried: u64,
     pub fault: BoardFault,
 }
 
 // Stores the bytes from `at` on.
+// kept: board, place and bytes go one by one through this file: a struct of them needs a clause in each method that two of them stay.
 fn store_bytes<B: Board>(board: &mut B, at: usize, bytes: &[u8]) -> Result<u64, Stopped>
     requires { OnBoard at (length bytes.now) (B.meaning board.old).size }
     ensures { Carried B.width (stores at bytes.now) (B.meaning board.old) result (B.meaning board.new) }
 {
-    for i in 0..bytes.len() {
-        match board.store(at + i, bytes[i]) {
-            Ok(()) => {}
-            Err(fault) => {
-                return Err(Stopped {
-                    carried: i as u64,
-                    fault,
-                });
-            }
-        }
+    for (i, byte) in bytes.iter().enumerate() {
+        board.store(at + i, *byte).map_err(|fault| Stopped {
+            carried: i as u64,
+            fault,
+        })?;
     }
     Ok(bytes.len() as u64)
 }
@@ -43,15 +39,10 @@ fn post_range<B: Board>(
     ensures { Carried B.width (posts first (end - first)) (B.meaning board.old) result (B.meaning board.new) }
 {
     for line in first..end {
-        match board.post(line, slip) {
-            Ok(()) => {}
-            Err(fault) => {
-                return Err(Stopped {
-                    carried: (line - first) as u64,
-                    fault,
-                });
-            }
-        }
+        board.post(line, slip).map_err(|fault| Stopped {
+            carried: (line - first) as u64,
+            fault,
+        })?;
     }
     Ok((end - first) as u64)
 }
@@ -78,13 +69,11 @@ fn store_and_post<B: Board>(
     ensures { Carried B.width (stores_and_posts B.width at bytes.now) (B.meaning board.old) result (B.meaning board.new) }
 {
     let stored = store_bytes(board, at, bytes)?;
-    match post_lines(board, at, bytes.len(), slip) {
-        Ok(posted) => Ok(stored + posted),
-        Err(stopped) => Err(Stopped {
-            carried: stored + stopped.carried,
-            fault: stopped.fault,
-        }),
-    }
+    let posted = post_lines(board, at, bytes.len(), slip).map_err(|stopped| Stopped {
+        carried: stored + stopped.carried,
+        ..stopped
+    })?;
+    Ok(stored + posted)
 }
 
 // The round of a stretch that lies on the board. Where a store or a post is refused, there is no power left, and the settle that
@@ -101,10 +90,8 @@ fn write_fitting<B: Board>(
     let written = store_and_post(board, at, bytes, &slip);
     let settled = board.settle(slip);
     let carried = written?;
-    match settled {
-        Ok(()) => Ok(carried + 1),
-        Err(fault) => Err(Stopped { carried, fault }),
-    }
+    settled.map_err(|fault| Stopped { carried, fault })?;
+    Ok(carried + 1)
 }
 
 // Writes the bytes from `at` on in one round, with the slip that it is given, and answers how many writing calls that took.
@@ -121,15 +108,9 @@ pub fn write_round<B: Board>(
         slip.spend();
         return Ok(0);
     }
-    let size = board.size();
-    if at > size || bytes.len() > size - at {
+    if let Err(fault) = check_places(board, at, bytes.len()) {
         slip.spend();
-        return Err(Stopped {
-            carried: 0,
-            fault: BoardFault::Outside {
-                given: at.max(size),
-            },
-        });
+        return Err(Stopped { carried: 0, fault });
     }
     write_fitting(board, slip, at, bytes)
 }

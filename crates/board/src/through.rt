@@ -3,7 +3,8 @@ ghost use Rattle.std.specs.Prelude.{◌≡◌, None};
 ghost use Rattle.std.proofs.Common.{lit≤};
 ghost use Rattle.model.specs.Writes.{Cut, store, post, settle};
 ghost use Rattle.model.specs.Calls.{Wrote};
-ghost use Rattle.board.specs.Through.{through_width, through_board, Leaves, stored_bytes, same_bytes};
+ghost use Rattle.board.specs.Tables.{Leaves};
+ghost use Rattle.board.specs.Through.{through_width, through_board, stored_bytes, same_bytes};
 
 use crate::supply::draw;
 use crate::{Board, Slip};
@@ -46,15 +47,15 @@ impl Board for ThroughBoard<'_> {
     }
 
     fn read(&self, place: usize) -> Result<u8, BoardFault> {
-        if place < self.size() {
-            Ok(self.bytes[place])
-        } else {
-            Err(BoardFault::Outside { given: place })
-        }
+        self.bytes
+            .get(place)
+            .copied()
+            .ok_or(BoardFault::Outside { given: place })
     }
 
     fn store(&mut self, place: usize, byte: u8) -> Result<(), BoardFault>
-        ensures { (Wrote through_width (store place byte) (through_board self.old) result (through_board self.new)) × (Leaves result (stored_bytes place byte) self.old self.new) }
+        ensures wrote { Wrote through_width (store place byte) (through_board self.old) result (through_board self.new) }
+        ensures leaves { Leaves result (stored_bytes place byte) self.old.bytes.now self.new.bytes.now }
     {
         if place >= self.size() {
             return Err(BoardFault::Outside { given: place });
@@ -65,7 +66,8 @@ impl Board for ThroughBoard<'_> {
     }
 
     fn post(&mut self, line: usize, slip: &Slip) -> Result<(), BoardFault>
-        ensures { (Wrote through_width (post line) (through_board self.old) result (through_board self.new)) × (Leaves result same_bytes self.old self.new) }
+        ensures wrote { Wrote through_width (post line) (through_board self.old) result (through_board self.new) }
+        ensures leaves { Leaves result same_bytes self.old.bytes.now self.new.bytes.now }
     {
         if line >= self.size() {
             return Err(BoardFault::Outside { given: line });
@@ -75,7 +77,8 @@ impl Board for ThroughBoard<'_> {
     }
 
     fn settle(&mut self, slip: Slip) -> Result<(), BoardFault>
-        ensures { (Wrote through_width settle (through_board self.old) result (through_board self.new)) × (Leaves result same_bytes self.old self.new) }
+        ensures wrote { Wrote through_width settle (through_board self.old) result (through_board self.new) }
+        ensures leaves { Leaves result same_bytes self.old.bytes.now self.new.bytes.now }
     {
         slip.spend();
         self.supply = draw(self.supply)?;
@@ -83,7 +86,8 @@ impl Board for ThroughBoard<'_> {
     }
 
     fn cut(&mut self, wanted: &[u8], supply: Option<u64>)
-        ensures { (Cut supply (through_board self.old) (through_board self.new)) × (self.new.bytes.now ≡ same_bytes self.old.bytes.now) }
+        ensures cut { Cut supply (through_board self.old) (through_board self.new) }
+        ensures leaves { self.new.bytes.now ≡ same_bytes self.old.bytes.now }
     {
         self.supply = supply;
     }

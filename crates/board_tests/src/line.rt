@@ -1,5 +1,6 @@
 use crate::any::{
-    ends, no_places, post_and_settle, post_store_settle, read, rounds, settle, store, supplies,
+    Told, ends, no_places, post_and_settle, post_store_settle, read, rounds, settle, store,
+    supplies,
 };
 use board::Board;
 use board::line::{Cell, LineBoard};
@@ -31,15 +32,14 @@ fn line_rounds(rt: HostRuntime) {
 }
 
 // What is found of place 1 of three, settled at 5, after these stores there and a cut with this list.
-fn found(stores: &[u8], wanted: &[u8]) -> u64 {
+fn found(stores: &[u8], wanted: &[u8]) -> Told {
     let mut cells = [Cell::settled_at(5); 3];
     let mut board = LineBoard::over(&mut cells);
     for byte in stores {
         let _ = store(&mut board, 1, *byte);
     }
     board.cut(wanted, None);
-    let (_, byte) = read(&board, 1);
-    byte
+    read(&board, 1)
 }
 
 // A store alone is lost, or kept where it is wanted; another byte may not stand there.
@@ -47,7 +47,7 @@ fn found(stores: &[u8], wanted: &[u8]) -> u64 {
 fn line_stored_once(rt: HostRuntime) {
     assert_eq!(rt;
         [found(&[6], &[]), found(&[6], &[9]), found(&[6], &[9, 7, 9])],
-        [5, 5, 5]
+        [Ok(5), Ok(5), Ok(5)]
     );
     assert_eq!(rt;
         [
@@ -55,7 +55,7 @@ fn line_stored_once(rt: HostRuntime) {
             found(&[6], &[9, 5]),
             found(&[], &[9, 9]),
         ],
-        [6, 5, 5]
+        [Ok(6), Ok(5), Ok(5)]
     );
 }
 
@@ -68,7 +68,7 @@ fn line_stored_twice(rt: HostRuntime) {
             found(&[6, 7], &[9]),
             found(&[6, 7, 8], &[]),
         ],
-        [8, 5, 5]
+        [Ok(8), Ok(5), Ok(5)]
     );
 }
 
@@ -83,7 +83,7 @@ fn line_posting(rt: HostRuntime) {
             store(&mut board, 64, 6),
             settle(&mut board),
         ],
-        [(0, 0), (0, 0), (0, 0)]
+        [Ok(0), Ok(0), Ok(0)]
     );
     assert_eq!(rt;
         [
@@ -96,19 +96,19 @@ fn line_posting(rt: HostRuntime) {
     );
     assert_eq!(rt;
         post_store_settle(&mut board, 0, 62, 6),
-        [(0, 0), (0, 0), (0, 0)]
+        [Ok(0), Ok(0), Ok(0)]
     );
     assert_eq!(rt;
         [board.is_loose(62), board.is_loose(63), board.is_loose(64)],
         [true, true, true]
     );
-    assert_eq!(rt; post_and_settle(&mut board, 0), [(0, 0), (0, 0)]);
+    assert_eq!(rt; post_and_settle(&mut board, 0), [Ok(0), Ok(0)]);
     assert_eq!(rt;
         [board.is_loose(62), board.is_loose(63), board.is_loose(64)],
         [false, false, true]
     );
     board.cut(&[], None);
-    assert_eq!(rt; [read(&board, 63), read(&board, 64)], [(0, 6), (0, 5)]);
+    assert_eq!(rt; [read(&board, 63), read(&board, 64)], [Ok(6), Ok(5)]);
 }
 
 // Cells that an earlier board left loose are settled at their present bytes.
@@ -118,5 +118,5 @@ fn line_over_again(rt: HostRuntime) {
     let _ = store(&mut LineBoard::over(&mut cells), 1, 6);
     let mut board = LineBoard::over(&mut cells);
     board.cut(&[], None);
-    assert_eq!(rt; [read(&board, 0), read(&board, 1)], [(0, 5), (0, 6)]);
+    assert_eq!(rt; [read(&board, 0), read(&board, 1)], [Ok(5), Ok(6)]);
 }

@@ -37,6 +37,6 @@ fn through_keeps(rt: HostRuntime) {
     board.cut(&[9, 9, 9], None);
     assert_eq!(rt;
         [stored, read(&board, 0), read(&board, 1)],
-        [(0, 0), (0, 5), (0, 6)]
+        [Ok(0), Ok(5), Ok(6)]
     );
 }

@@ -1,7 +1,16 @@
--- The marker that a byte is.
-use Rattle.std.specs.Prelude.{ℕ, cond, Some, None, Option, nat_lt}
+-- The byte of a marker, and the marker of a byte.
+use Rattle.std.specs.Prelude.{◌≡◌, ℕ, cond, Some, None, Option, Result, MatchResult, nat_lt}
 use Rattle.layout.specs.declared.marker.Marker.{Marker}
-use Rattle.layout.specs.Layout.{marker_limit, is_last, live_pad}
+use Rattle.layout.specs.declared.marker.NoMarker.{NoMarker}
+use Rattle.layout.specs.Layout.{marker_limit, marker_byte, is_last, live_pad}
 
 abbrev pub marker_of : ℕ → Option Marker
 marker_of b = cond (nat_lt b marker_limit) (Some (record { live = live_pad b; last = is_last b })) None
+
+-- b is the marker's byte
+abbrev pub Spells : Marker → ℕ → Type 0
+Spells x b = b ≡ marker_byte x.live x.last
+
+-- the marker with this byte, or that there is none
+abbrev pub Decodes : ℕ → Result Marker NoMarker → Type 0
+Decodes b r = MatchResult r (λ x. marker_of b ≡ Some x) (λ _. marker_of b ≡ None)

@@ -25,6 +25,7 @@ pub const SIZE_SIZE: usize = 4;
 pub const FRAMES_AT: usize = SIZE_AT + SIZE_SIZE;
 
 // A pad: a tag, the answer and the progress.
+// kept: the tags are bytes of the format; in the code an answer is an `Option`.
 pub const NO_ANSWER: u8 = 0;
 
 pub const WITH_ANSWER: u8 = 1;

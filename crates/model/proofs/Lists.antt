@@ -1,6 +1,7 @@
 -- Lists of granted calls: how they part and join, and a place, the power and the bytes through them.
 use Rattle.std.proofs.Common.{◌≡◌, ℕ, zero, suc, ◌+◌, ◌-◌, ◌/◌, ◌<◌, ◌≤◌, List, [], ◌∷◌, ◌++◌, length, get_or, take, Some, None, Option, sym, refl, ap, ◌∙◌, subst, inl, inr, ⊎_elim, arith}
 use Rattle.std.proofs.lemmas.Bool.{cases_lt}
+use Rattle.std.proofs.Math.Seq.{take-append-add}
 use Rattle.std.proofs.lemmas.List.{take_more, take_all, length-take-le, length-append, take-append-le}
 use Rattle.model.specs.Places.{Place, settled}
 use Rattle.model.specs.Writes.{Meaning, bytes, Write, store, post, settle, spent, Granted, Ran, Broken, Spared, SparedLine, bytes_after}
@@ -135,12 +136,6 @@ broken_first L us vs k m n b =
       ran = subst (λ ws. Ran L ws m n) (sym (take-append-le k us vs (omega (arith, b.short)))) b.ran;
     }
 
-take_past : (us vs : List Write) (k : ℕ) → take (length us + k) (us ++ vs) ≡ us ++ take k vs
-take_past [] vs k = let e : 0 + k ≡ k = omega arith in ap (λ j. take j vs) e
-take_past (u ∷ us) vs k =
-    let e : suc (length us) + k ≡ suc (length us + k) = omega arith in
-    ap (λ j. take j (u ∷ (us ++ vs))) e ∙ ap (λ ws. u ∷ ws) (take_past us vs k)
-
 -- a list of two parts, cut off in the first or in the second
 pub ran_first : (L k : ℕ) (us vs : List Write) (m o : Meaning) → k ≤ length us → Ran L (take k (us ++ vs)) m o → Ran L (take k us) m o
 ran_first L k us vs m o le r = subst (λ ws. Ran L ws m o) (take-append-le k us vs le) r
@@ -148,14 +143,14 @@ ran_first L k us vs m o le r = subst (λ ws. Ran L ws m o) (take-append-le k us 
 pub ran_second : (L k : ℕ) (us vs : List Write) (m o : Meaning) → length us ≤ k → Ran L (take k (us ++ vs)) m o → (n : Meaning) × Ran L us m n × Ran L (take (k - length us) vs) n o
 ran_second L k us vs m o le r =
     let e : k ≡ length us + (k - length us) = omega arith in
-    ran_split L us (take (k - length us) vs) m o (subst (λ ws. Ran L ws m o) (ap (λ i. take i (us ++ vs)) e ∙ take_past us vs (k - length us)) r)
+    ran_split L us (take (k - length us) vs) m o (subst (λ ws. Ran L ws m o) (ap (λ i. take i (us ++ vs)) e ∙ take-append-add us vs (k - length us)) r)
 
 pub broken_then : (L : ℕ) (us vs : List Write) (k : ℕ) (m n o : Meaning) → Ran L us m n → Broken L vs n k o → Broken L (us ++ vs) m (length us + k) o
 broken_then L us vs k m n o r b =
     record {
       short = omega (arith, length-append us vs, b.short);
       supply = ran_back L us k m n r b.supply;
-      ran = subst (λ ws. Ran L ws m o) (sym (take_past us vs k)) (ran_join L us (take k vs) m n o r b.ran);
+      ran = subst (λ ws. Ran L ws m o) (sym (take-append-add us vs k)) (ran_join L us (take k vs) m n o r b.ran);
     }
 
 pub ran_all : (L : ℕ) (ws : List Write) (i : ℕ) (m n : Meaning) → length ws ≤ i → Ran L (take i ws) m n → Ran L ws m n

@@ -151,10 +151,6 @@ unfolding round
 round_parts L p [] lt = absurd (omega arith)
 round_parts L p (b ∷ bs) lt = append_assoc (stores p (b ∷ bs)) (posts (p / L) (lines L p (length (b ∷ bs)))) (settle ∷ [])
 
-pub round_none : (L p : ℕ) → round L p [] ≡ []
-unfolding round
-round_none L p = refl
-
 -- at most as many lines as places, and how many calls that makes
 pub lines_few : (L p n : ℕ) → 0 < L → lines L p n ≤ n
 lines_few L p zero some = omega arith

@@ -1,6 +1,7 @@
 // What a board refuses, and what the stack over it refuses.
-ghost use Rattle.std.specs.Prelude.{◌≡◌};
-ghost use Rattle.model.specs.Faults.{number, layer, detail, stack_number, stack_layer, stack_detail};
+ghost use Rattle.std.specs.Prelude.{◌≡◌, ℕ};
+ghost use Rattle.model.specs.declared.faults.Layer.{Layer};
+ghost use Rattle.model.specs.declared.faults.StackFault.TheVariants.{Board};
 
 // The layer whose refusal a fault is.
 #[derive(Clone, Copy, PartialEq, Eq, Debug)]
@@ -8,6 +9,24 @@ pub enum Layer {
     Board,
     Stack,
     Runner,
+}
+
+// A refusal, which every layer above passes up whole: its number, the layer whose refusal it is, and its detail.
+pub trait Fault: Copy {
+    ghost number: { Self → ℕ };
+
+    ghost layer: { Self → Layer };
+
+    ghost detail: { Self → ℕ };
+
+    fn number(self) -> u8
+        ensures { result ≡ number self };
+
+    fn layer(self) -> Layer
+        ensures { result ≡ layer self };
+
+    fn detail(self) -> u64
+        ensures { result ≡ detail self };
 }
 
 #[derive(Clone, Copy, PartialEq, Eq, Debug)]
@@ -18,25 +37,27 @@ pub enum BoardFault {
     Outside { given: usize },
 }
 
-impl BoardFault {
-    pub fn number(self) -> u8
-        ensures { result ≡ number self }
-    {
+impl Fault for BoardFault {
+    ghost use Rattle.model.specs.Faults.{number, layer, detail};
+
+    ghost number = { number };
+
+    ghost layer = { layer };
+
+    ghost detail = { detail };
+
+    fn number(self) -> u8 {
         match self {
             BoardFault::NoPower { .. } => 1,
             BoardFault::Outside { .. } => 2,
         }
     }
 
-    pub fn layer(self) -> Layer
-        ensures { result ≡ layer self }
-    {
+    fn layer(self) -> Layer {
         Layer::Board
     }
 
-    pub fn detail(self) -> u64
-        ensures { result ≡ detail self }
-    {
+    fn detail(self) -> u64 {
         match self {
             BoardFault::NoPower { carried } => carried,
             BoardFault::Outside { given } => given as u64,
@@ -60,10 +81,25 @@ pub enum StackFault {
     Damaged { first: usize },
 }
 
-impl StackFault {
-    pub fn number(self) -> u8
-        ensures { result ≡ stack_number self }
-    {
+// The board's refusal, passed up whole.
+impl From<BoardFault> for StackFault {
+    ghost from_gives = { λ refused result. result ≡ Board refused };
+
+    fn from(refused: BoardFault) -> StackFault {
+        StackFault::Board(refused)
+    }
+}
+
+impl Fault for StackFault {
+    ghost use Rattle.model.specs.Faults.{stack_number, stack_layer, stack_detail};
+
+    ghost number = { stack_number };
+
+    ghost layer = { stack_layer };
+
+    ghost detail = { stack_detail };
+
+    fn number(self) -> u8 {
         match self {
             StackFault::Board(fault) => fault.number(),
             StackFault::TooManyArguments => 5,
@@ -74,18 +110,14 @@ impl StackFault {
         }
     }
 
-    pub fn layer(self) -> Layer
-        ensures { result ≡ stack_layer self }
-    {
+    fn layer(self) -> Layer {
         match self {
             StackFault::Board(fault) => fault.layer(),
             _ => Layer::Stack,
         }
     }
 
-    pub fn detail(self) -> u64
-        ensures { result ≡ stack_detail self }
-    {
+    fn detail(self) -> u64 {
         match self {
             StackFault::Board(fault) => fault.detail(),
             StackFault::Damaged { first } => first as u64,

@@ -1,7 +1,6 @@
 -- What is done at the end of a list.
-use Rattle.std.proofs.Common.{◌≡◌, ℕ, zero, suc, ◌-◌, ◌<◌, ◌≤◌, ltb, List, [], ◌∷◌, map, length, get_or, take, set, refl, ap, arith}
-use Rattle.std.proofs.lemmas.Bool.{lt-ltb}
-use Rattle.plain.specs.Frames.{Frame, with_top, without_top, above_bottom}
+use Rattle.std.proofs.Common.{◌≡◌, ℕ, zero, suc, ◌-◌, ◌<◌, ◌≤◌, List, [], ◌∷◌, map, length, get_or, take, set, refl, ap, arith}
+use Rattle.plain.specs.Frames.{with_top, without_top}
 
 -- the last item replaced by one that f maps to what g makes of it
 map_set_last : {A B : Type 0} (f : A → B) (g : B → B) (xs : List A) (n : ℕ) (d z : A) → suc n ≡ length xs → f z ≡ g (f (get_or xs n d)) → map f (set xs n z) ≡ with_top g (map f xs)
@@ -33,8 +32,3 @@ map_shorter f [] n l = ap (λ k. map f (take k [])) (the_zero n l)
     the_zero : (n : ℕ) → n ≡ 0 → n - 1 ≡ 0
     the_zero n e = omega arith
 map_shorter f (x ∷ xs) n l = map_take f (x ∷ xs) (n - 1) (omega arith)
-
-pub above_map : {A : Type 0} (f : A → Frame) (xs : List A) (n : ℕ) → n ≡ length xs → ltb 1 n ≡ above_bottom (map f xs)
-above_map f [] n l = ap (ltb 1) l
-above_map f (x ∷ []) n l = ap (ltb 1) l
-above_map f (x ∷ y ∷ ys) n l = lt-ltb 1 n (omega arith)

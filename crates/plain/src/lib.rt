@@ -2,11 +2,12 @@
 // tests compare with.
 #![tactic(auto)]
 
-ghost use Rattle.std.specs.Prelude.{◌≡◌, [], ◌∷◌, ◌++◌, MatchResult};
-ghost use Rattle.plain.specs.Frames.{fresh, noted, answered, with_top, without_top, empty, called, top_noted, above_bottom, given};
-ghost use Rattle.plain.specs.Stacks.{frame, all_frames, frames};
+ghost use Rattle.std.specs.Prelude.{◌≡◌, MatchResult};
+ghost use Rattle.plain.specs.Frames.{fresh, empty, called, top_noted, above_bottom, given};
+ghost use Rattle.plain.specs.Stacks.{frame, all_frames};
 
 use std::alloc::{AllocError, Global};
+use std::marker::Model;
 
 // How far an activity has come; the activity alone knows what the number means.
 #[derive(Clone, Copy, PartialEq, Eq, Debug)]
@@ -23,6 +24,7 @@ pub struct Answer {
 // One activity.
 #[derive(Drop)]
 pub struct PlainFrame {
+    // kept: a number, since each programme has kinds of its own.
     pub kind: u16,
     pub args: Vec<u8>,
     pub progress: Progress,
@@ -30,112 +32,87 @@ pub struct PlainFrame {
     pub answer: Option<Answer>,
 }
 
-// The frames, bottom first. `empty` makes the bottom, and no call removes it.
+impl PlainFrame {
+    // A frame with progress 0 and no answer.
+    fn fresh(heap: Global, kind: u16, args: &[u8]) -> Result<PlainFrame, AllocError>
+        ensures { MatchResult result (λ x. frame x ≡ fresh kind args.now) (λ _. Unit) }
+    {
+        Ok(PlainFrame {
+            kind,
+            args: args.to_vec(heap)?,
+            progress: Progress { value: 0 },
+            answer: None,
+        })
+    }
+}
+
+// The frames, bottom first. `empty` makes the bottom, and no call removes it. A contract sees a stack as the list of its frames.
 #[derive(Drop)]
 pub struct PlainStack {
     frames: Vec<PlainFrame>,
-    heap: Global,
 }
 
-fn fresh(heap: Global, kind: u16, args: &[u8]) -> Result<PlainFrame, AllocError>
-    ensures { MatchResult result (λ x. frame x ≡ fresh kind args.now) (λ _. Unit) }
-{
-    let mut own = Vec::new(heap);
-    own.extend_from_slice(args)?;
-    Ok(PlainFrame {
-        kind,
-        args: own,
-        progress: Progress { value: 0 },
-        answer: None,
-    })
-}
+impl Model for PlainStack {
+    ghost use Rattle.std.specs.Prelude.{List};
+    ghost use Rattle.plain.specs.Frames.{Frame};
 
-// Puts a frame on top; without memory the others stay.
-fn push(all: &mut Vec<PlainFrame>, new: PlainFrame) -> Result<(), AllocError>
-    ensures { MatchResult result (λ _. all_frames all.new.items ≡ all_frames all.old.items ++ (frame new ∷ [])) (λ _. all_frames all.new.items ≡ all_frames all.old.items) }
-{
-    all.push(new)?;
-    Ok(())
-}
+    ghost Value = { List Frame };
 
-// Gives the top this progress and no answer.
-fn note_top(all: &mut Vec<PlainFrame>, progress: Progress)
-    ensures { all_frames all.new.items ≡ with_top (noted progress) (all_frames all.old.items) }
-{
-    let n = all.len();
-    if n > 0 {
-        let top = &mut all[n - 1];
-        top.progress = progress;
-        top.answer = None;
-    }
-}
+    ghost use Rattle.plain.specs.Stacks.{frames_of};
 
-// Gives the top this answer.
-fn answer_top(all: &mut Vec<PlainFrame>, answer: Answer)
-    ensures { all_frames all.new.items ≡ with_top (answered answer) (all_frames all.old.items) }
-{
-    let n = all.len();
-    if n > 0 {
-        let top = &mut all[n - 1];
-        top.answer = Some(answer);
-    }
-}
-
-// Whether a frame stands above the bottom.
-fn above_bottom(all: &Vec<PlainFrame>) -> bool
-    ensures { result ≡ above_bottom (all_frames all.now.items) }
-{
-    all.len() > 1
-}
-
-// Removes the top.
-fn remove_top(all: &mut Vec<PlainFrame>)
-    ensures { all_frames all.new.items ≡ without_top (all_frames all.old.items) }
-{
-    let _ = all.pop();
+    ghost view = { frames_of };
 }
 
 impl PlainStack {
     // The bottom alone.
     pub fn empty(heap: Global) -> Result<PlainStack, AllocError>
-        ensures { MatchResult result (λ s. frames s ≡ empty) (λ _. Unit) }
+        ensures { MatchResult result (λ s. s ≡ empty) (λ _. Unit) }
     {
-        let mut all = Vec::new(heap);
-        push(&mut all, fresh(heap, 0, &[])?)?;
-        Ok(PlainStack { frames: all, heap })
+        let mut frames = Vec::new(heap);
+        frames.push(PlainFrame::fresh(heap, 0, &[])?)?;
+        Ok(PlainStack { frames })
     }
 
     // Adds a fresh frame on top; without memory the stack stays.
     pub fn call(&mut self, kind: u16, args: &[u8]) -> Result<(), AllocError>
-        ensures { MatchResult result (λ _. frames self.new ≡ called kind args.now (frames self.old)) (λ _. frames self.new ≡ frames self.old) }
+        ensures { MatchResult result (λ _. self.new ≡ called kind args.now self.old) (λ _. self.new ≡ self.old) }
     {
-        let new = fresh(self.heap, kind, args)?;
-        push(&mut self.frames, new)
+        let new = PlainFrame::fresh(*self.frames.allocator(), kind, args)?;
+        self.frames.push(new)?;
+        Ok(())
     }
 
     // Sets the top's progress and removes its answer.
+    #[tactic(auto, using(crate::proofs::Stacks::map_set_top, crate::proofs::Stacks::map_none))]
     pub fn note(&mut self, progress: Progress)
-        ensures { frames self.new ≡ top_noted progress (frames self.old) }
+        ensures { self.new ≡ top_noted progress self.old }
     {
-        note_top(&mut self.frames, progress)
+        if let Some(top) = self.frames.last_mut() {
+            top.progress = progress;
+            top.answer = None;
+        }
     }
 
     // Removes the top, and hands the answer to the new one. At the bottom it answers false, and the stack stays.
+    // kept: a `bool`, since a give cannot fail here; as of std's `HashSet::remove`, false says that nothing was there to remove.
+    #[tactic(auto, using(crate::proofs::Stacks::map_set_top, crate::proofs::Stacks::map_shorter))]
     pub fn give(&mut self, answer: Answer) -> bool
-        ensures frames { frames self.new ≡ given answer (frames self.old) }
-        ensures removed { result ≡ above_bottom (frames self.old) }
+        ensures frames { self.new ≡ given answer self.old }
+        ensures removed { result ≡ above_bottom self.old }
     {
-        let above = above_bottom(&self.frames);
+        let above = self.frames.len() > 1;
         if above {
-            remove_top(&mut self.frames);
-            answer_top(&mut self.frames, answer);
+            self.frames.pop();
+            if let Some(top) = self.frames.last_mut() {
+                top.answer = Some(answer);
+            }
         }
         above
     }
 
     // The frames, bottom first.
     pub fn frames(&self) -> &[PlainFrame]
-        ensures { all_frames result.now ≡ frames self.now }
+        ensures { all_frames result.now ≡ self.now }
     {
         self.frames.as_slice()
     }

@@ -1,9 +1,8 @@
 -- What a programme's table says, and what is answered by it.
 use Rattle.std.specs.Prelude.{◌≡◌, ℕ, ◌<◌, ◌≤◌, List, [], ◌∷◌, ◌++◌, length, drop, Some, None, Ok, MatchBool, Option, Result, MatchResult, nat_lt}
-use Rattle.plain.specs.declared.Answer.{Answer}
-use Rattle.plain.specs.declared.Progress.{Progress}
 use Rattle.plain.specs.Frames.{Frame, Change, call, note, give}
 use Rattle.layout.specs.Layout.{max_args}
+use Rattle.programme.specs.declared.Top.{Top}
 use Rattle.programme.specs.declared.choice.Choice.{Choice}
 use Rattle.programme.specs.declared.choice.Choice.TheVariants.{Wait, Note, Give, Call}
 use Rattle.programme.specs.declared.choice.ProgrammeFault.{ProgrammeFault}
@@ -20,9 +19,9 @@ pub data Verdict : Type 0 where
 abbrev pub Table : Type 0
 Table = Frame → Option ℕ → Verdict
 
--- a frame, part by part
-abbrev pub frame : ℕ → List ℕ → Progress → Option Answer → Frame
-frame kind args p a = record { kind = kind; args = args; progress = p; answer = a }
+-- the frame that is lent
+abbrev pub frame : Top → Frame
+frame t = record { kind = t.kind; args = t.args.now; progress = t.progress; answer = t.answer }
 
 -- the bottom's kind, which every programme has
 abbrev pub bottom_kind : ℕ

@@ -1,8 +1,5 @@
 // What a programme chooses, and what it refuses.
-ghost use Rattle.std.specs.Prelude.{◌≡◌};
-ghost use Rattle.programme.specs.Faults.{number, layer, detail};
-
-use model::faults::Layer;
+use model::faults::{Fault, Layer};
 use plain::{Answer, Progress};
 
 // What the top activity does at a step.
@@ -15,6 +12,7 @@ pub enum Choice {
     // It ends, and hands this answer to the activity that opened it.
     Give(Answer),
     // It opens an activity of this kind; so many argument bytes stand at the front of the lent buffer.
+    // kept: a choice that held these bytes would borrow the buffer, and no plain clause could say what the buffer holds.
     Call { kind: u16, count: usize },
 }
 
@@ -29,10 +27,16 @@ pub enum ProgrammeFault {
     ShortBuffer,
 }
 
-impl ProgrammeFault {
-    pub fn number(self) -> u8
-        ensures { result ≡ number self }
-    {
+impl Fault for ProgrammeFault {
+    ghost use Rattle.programme.specs.Faults.{number, layer, detail};
+
+    ghost number = { number };
+
+    ghost layer = { layer };
+
+    ghost detail = { detail };
+
+    fn number(self) -> u8 {
         match self {
             ProgrammeFault::UnknownKind => 12,
             ProgrammeFault::WrongArguments => 13,
@@ -40,15 +44,11 @@ impl ProgrammeFault {
         }
     }
 
-    pub fn layer(self) -> Layer
-        ensures { result ≡ layer self }
-    {
+    fn layer(self) -> Layer {
         Layer::Runner
     }
 
-    pub fn detail(self) -> u64
-        ensures { result ≡ detail self }
-    {
+    fn detail(self) -> u64 {
         0
     }
 }

@@ -1,6 +1,12 @@
 -- One frame, test by test, as the code reads it.
-use Rattle.std.proofs.Common.{◌≡◌, ℕ, ◌+◌, ◌<◌, ◌≤◌, Bool, true, false, cond, ltb, leb, List, length, Some, None, sym, refl, ap, ◌∙◌, subst, arith}
+use Rattle.std.proofs.Common.{◌≡◌, ℕ, ◌+◌, ◌<◌, ◌≤◌, Bool, true, false, cond, ltb, leb, List, length, get_or, Ok, Err, Result, Some, None, sym, refl, ap, ◌∙◌, subst, arith}
 use Rattle.std.proofs.lemmas.Bool.{and_from, and_left, and_right, leb-false, lt-leb, lt-ltb}
+use Rattle.std.proofs.lemmas.List.{get_or_past}
+use Rattle.std.specs.Result.{result_unwrap_or}
+use Rattle.model.specs.declared.faults.BoardFault.{BoardFault}
+use Rattle.model.specs.Writes.{Meaning, bytes}
+use Rattle.model.specs.Calls.{Answered}
+use Rattle.model.proofs.Places.{length-bytes, byte_at}
 use Rattle.region.specs.declared.read.FrameHead.{FrameHead}
 use Rattle.layout.specs.declared.marker.Marker.{Marker}
 use Rattle.region.specs.declared.read.PadContent.{PadContent}
@@ -25,7 +31,7 @@ some_of false x y e = let z : ◌≡◌ {A = ℕ} 0 1 = cc in absurd (omega arit
 pub head_found : (bs : List ℕ) (size i p n kind b : ℕ) (k : Marker) (c : PadContent) (h : FrameHead)
     → length bs ≡ size → i < max_frames → n ≡ count_at bs p → kind ≡ kind_at bs p → leb (p + frame_size n) size ≡ true → kind_rule i kind n ≡ true
     → b ≡ marker_at bs p → marker_of b ≡ Some k → pad_at bs (pad_place p n k.live) ≡ Some c
-    → h.extent.first ≡ p → h.kind ≡ kind → h.extent.count ≡ n → h.marker ≡ k → h.progress ≡ c.progress → h.answer ≡ c.answer
+    → h.extent.first ≡ p → h.kind ≡ kind → h.extent.count ≡ n → h.marker ≡ k → h.pad.progress ≡ c.progress → h.pad.answer ≡ c.answer
     → HeadFound bs i p h
 head_found bs size i p n kind b k c h l few en ek room rule eb em ep hf hk hc hm hp ha =
     let m = some_of (ltb b marker_limit) _ k em in
@@ -50,3 +56,12 @@ head_found bs size i p n kind b k c h l few en ek room rule eb em ep hf hk hc hm
             answer = ha ∙ sym (ap (λ z. z.answer) d.1);
           };
     }
+
+-- what a read answers, with 0 past the board's end
+pub read_or_zero : (m : Meaning) (p : ℕ) (r : Result ℕ BoardFault) → Answered p m r → result_unwrap_or r 0 ≡ get_or (bytes m) p 0
+read_or_zero m p (Ok b) h = h.1 ∙ sym (byte_at m p h.0)
+read_or_zero m p (Err e) h = sym (get_or_past (bytes m) p 0 (omega (arith, length-bytes m, h.0)))
+
+-- the number of places, as a board answers it
+pub size_is : (m : Meaning) (n : ℕ) → n ≡ m.size → n ≡ length (bytes m)
+size_is m n e = e ∙ sym (length-bytes m)

@@ -1,7 +1,8 @@
 -- Numbers as bytes: reading back what was spelled, and spelling what was read.
 use Rattle.std.proofs.Common.{◌≡◌, ℕ, zero, suc, ◌+◌, ◌*◌, ◌/◌, ◌%◌, ◌^◌, ◌<◌, ◌≤◌, List, [], ◌∷◌, length, get_or, sym, refl, ap, ◌∙◌, subst, mul-le-mul_right, mod-lt, mul_assoc, mul_comm, add-mul, pow-suc, div-add-mod', arith}
-use native.Mathlib.Nat.{pow-zero, div-eq_of_lt, div-div-eq-div-mul, mul-add-div_right}
+use native.Mathlib.Nat.{pow-zero, div-eq_of_lt, div-div-eq-div-mul}
 use Rattle.std.proofs.lemmas.List.{ext_get_or}
+use Rattle.std.proofs.lemmas.Nat.{div-mul-add}
 use Rattle.region.specs.Numbers.{number, spelled, part, Bytes}
 
 pub length-spelled : (k v : ℕ) → length (spelled k v) ≡ k
@@ -34,10 +35,6 @@ number_below (b ∷ bs) h =
     let one : (b + 1) * P ≡ b * P + 1 * P = add-mul b 1 P in
     omega (arith, number_below bs h.1, most, one, pow-suc 256 (length bs), mul_comm P 256)
 
--- the first byte of a number, and the number without it
-first_byte : (b P r : ℕ) → r < P → (b * P + r) / P ≡ b
-first_byte b P r lt = mul-add-div_right (omega arith) b r ∙ ap (λ x. b + x) (div-eq_of_lt lt) ∙ omega arith
-
 -- lists of bytes of one length that spell the same number are the same
 number_same : (us bs : List ℕ) → Bytes us → Bytes bs → length us ≡ length bs → number us ≡ number bs → us ≡ bs
 number_same [] [] h k l e = refl
@@ -49,7 +46,7 @@ number_same (a ∷ us) (b ∷ bs) h k l e =
     let long : 256 ^ length us ≡ P = ap (λ n. 256 ^ n) short in
     let same : a * P + number us ≡ b * P + number bs = sym (ap (λ x. a * x + number us) long) ∙ e in
     let below : number us < P = subst (λ x. number us < x) long (number_below us h.1) in
-    let heads : a ≡ b = sym (first_byte a P (number us) below) ∙ ap (λ x. x / P) same ∙ first_byte b P (number bs) (number_below bs k.1) in
+    let heads : a ≡ b = sym (div-mul-add a P (number us) below) ∙ ap (λ x. x / P) same ∙ div-mul-add b P (number bs) (number_below bs k.1) in
     let products : a * P ≡ b * P = ap (λ x. x * P) heads in
     cc (heads, number_same us bs h.1 k.1 short (omega arith))
 

@@ -1,5 +1,5 @@
 -- Rounds one after the other, as one operation.
-use Rattle.std.proofs.Common.{◌≡◌, ℕ, ◌+◌, ◌^◌, ◌<◌, ◌≤◌, ◌⊎◌, List, [], ◌∷◌, ◌++◌, length, Ok, Err, Result, sym, refl, ap, ◌∙◌, subst, inl, inr, arith}
+use Rattle.std.proofs.Common.{◌≡◌, ℕ, ◌+◌, ◌^◌, ◌<◌, ◌≤◌, ◌⊎◌, List, [], ◌∷◌, ◌++◌, length, Ok, Err, Result, refl, ap, ◌∙◌, subst, inl, inr, arith}
 use Rattle.std.proofs.lemmas.List.{length-append}
 use Rattle.model.specs.declared.faults.BoardFault.{BoardFault}
 use Rattle.model.specs.declared.faults.BoardFault.TheVariants.{NoPower, Outside}
@@ -11,7 +11,7 @@ use Rattle.model.specs.Rounds.{round}
 use Rattle.model.proofs.Lists.{ran_size, ran_join, broken_first, broken_then}
 use Rattle.model.proofs.Rounds.{round_short}
 use Rattle.board.specs.declared.rounds.Stopped.{Stopped}
-use Rattle.board.specs.Rounds.{OnBoard, Fits, Whole, CutShort, TooLong}
+use Rattle.board.specs.Rounds.{OnBoard, Whole, CutShort, TooLong, Round}
 use Rattle.region.specs.Frames.{SizeAllowed}
 use Rattle.layout.specs.Layout.{version_at, size_at, size_size, frame_size}
 use Rattle.region.specs.Plans.{blank, fresh_bytes, fill, finish, format_plan}
@@ -22,23 +22,17 @@ power_fault : (e : BoardFault) (k : ℕ) → Fault 1 0 e → Refusal 1 Board k (
 power_fault (NoPower c) k f = (refl, refl, refl)
 power_fault (Outside g) k f = absurd (omega (arith, f.0))
 
-fits_board : (p : ℕ) (bs : List ℕ) (size : ℕ) → p + length bs ≤ size → Fits p bs size
-fits_board p [] size le = tt
-fits_board p (b ∷ bs) size le = le
-
--- a round on the board that was stopped has run out of power
-pub round_stopped : (L before p : ℕ) (bs : List ℕ) (m : Meaning) (s : Stopped) (n : Meaning) (e : StackFault) → p + length bs ≤ m.size → CutShort L p bs m s n ⊎ TooLong p bs m s n → e ≡ with_count s.fault (before + s.carried)
-    → (k : ℕ) × Refusal 1 Board (before + k) e × Broken L (round L p bs) m k n
-round_stopped L before p bs m s n e le (inl c) same = (s.carried, subst (Refusal 1 Board (before + s.carried)) (sym same) (power_fault s.fault (before + s.carried) c.fault), c.broken)
-round_stopped L before p bs m s n e le (inr c) same = absurd (c.outside (fits_board p bs m.size le))
-
 -- how many calls that were
-pub stopped_few : (L p : ℕ) (bs : List ℕ) (m : Meaning) (s : Stopped) (n : Meaning) → 0 < L → CutShort L p bs m s n ⊎ TooLong p bs m s n → s.carried ≤ length bs + length bs + 1
-stopped_few L p bs m s n some (inl c) = omega (arith, c.broken.short, round_short L p bs some)
-stopped_few L p bs m s n some (inr c) = omega (arith, c.carried)
+few : (L p : ℕ) (bs : List ℕ) (m : Meaning) (s : Stopped) (n : Meaning) → 0 < L → CutShort L p bs m s n ⊎ TooLong p bs m s n → s.carried ≤ length bs + length bs + 1
+few L p bs m s n some (inl c) = omega (arith, c.broken.short, round_short L p bs some)
+few L p bs m s n some (inr c) = omega (arith, c.carried)
 
-pub whole_few : (L p : ℕ) (bs : List ℕ) (m : Meaning) (k : ℕ) (n : Meaning) → 0 < L → Whole L p bs m k n → k ≤ length bs + length bs + 1
-whole_few L p bs m k n some w = omega (arith, w.count, round_short L p bs some)
+pub stopped_few : (L p : ℕ) (bs : List ℕ) (m : Meaning) (r : Result ℕ Stopped) (s : Stopped) (n : Meaning) → 0 < L → Round L p bs m r n → r ≡ Err s → s.carried ≤ length bs + length bs + 1
+stopped_few L p bs m r s n some h e = few L p bs m s n some (subst (λ x. Round L p bs m x n) e h)
+
+pub whole_few : (L p : ℕ) (bs : List ℕ) (m : Meaning) (r : Result ℕ Stopped) (k : ℕ) (n : Meaning) → 0 < L → Round L p bs m r n → r ≡ Ok k → k ≤ length bs + length bs + 1
+whole_few L p bs m r k n some h e =
+    let w : Whole L p bs m k n = subst (λ x. Round L p bs m x n) e h in omega (arith, w.count, round_short L p bs some)
 
 -- a format that the power ended, and a whole one
 pub format_stopped : (L k : ℕ) (m : Meaning) (e : StackFault) (n : Meaning) → 0 < L → SizeAllowed m.size → Refusal 1 Board k e → Broken L (format_plan L m.size) m k n → FormatStopped L m e n

@@ -29,8 +29,8 @@ pub record Heads (h : FrameHead) (x : Located) (last : Bool) : Type 0 where
   pub count : h.extent.count ≡ length x.frame.args
   pub live : h.marker.live ≡ x.live
   pub last_frame : h.marker.last ≡ last
-  pub progress : h.progress ≡ x.frame.progress
-  pub answer : h.answer ≡ x.frame.answer
+  pub progress : h.pad.progress ≡ x.frame.progress
+  pub answer : h.pad.answer ≡ x.frame.answer
 
 -- the undamaged frame at place p, with i frames below it
 pub record HeadFound (bs : List ℕ) (i p : ℕ) (h : FrameHead) : Type 0 where

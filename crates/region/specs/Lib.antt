@@ -6,5 +6,4 @@ pub mod Plans
 pub mod Cuts
 pub mod Answers
 pub mod Laws
-pub mod Stretches
 pub mod Operations

@@ -8,14 +8,14 @@ use board::rounds::write_round;
 use board::{Board, Slip};
 use model::faults::{BoardFault, StackFault};
 
-// The fault of an operation that carried out so many writing calls: only here is the count set.
+// The refusal of an operation that carried out so many writing calls: only here is the count set.
 fn counted(fault: BoardFault, carried: u64) -> StackFault
     ensures { result ≡ with_count fault carried }
 {
-    match fault {
-        BoardFault::NoPower { .. } => StackFault::Board(BoardFault::NoPower { carried }),
-        BoardFault::Outside { .. } => StackFault::Board(fault),
-    }
+    StackFault::from(match fault {
+        BoardFault::NoPower { .. } => BoardFault::NoPower { carried },
+        BoardFault::Outside { .. } => fault,
+    })
 }
 
 // One round of an operation that has carried out `before` writing calls: answers how many it has carried out then.
@@ -29,8 +29,9 @@ pub(crate) fn next_round<B: Board>(
     requires { (OnBoard at (length bytes.now) (B.meaning board.old).size) × (before + (length bytes.now + length bytes.now + 1) < 2 ^ 64) }
     ensures { Counted B.width before (round B.width at bytes.now) (B.meaning board.old) result (B.meaning board.new) }
 {
-    match write_round(board, slip, at, bytes) {
-        Ok(carried) => Ok(before + carried),
-        Err(stopped) => Err(counted(stopped.fault, before + stopped.carried)),
-    }
+    let carried = write_round(board, slip, at, bytes).map_err(|stopped| counted(
+        stopped.fault,
+        before + stopped.carried,
+    ))?;
+    Ok(before + carried)
 }

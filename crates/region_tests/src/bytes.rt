@@ -1,19 +1,24 @@
 // The bytes of pads, of new frames and of markers.
+use crate::told::{Told, told};
 use layout::marker::{Marker, Pad};
 use plain::{Answer, Progress};
+use region::read::PadContent;
 use region::write::{frame_bytes, pad_bytes};
 
 #[test]
 fn pads(rt: HostRuntime) {
-    let none = pad_bytes(None, Progress { value: 258 });
+    let none = pad_bytes(PadContent {
+        answer: None,
+        progress: Progress { value: 258 },
+    });
     assert_eq!(rt;
         none.as_slice(),
         [0, 0, 0, 0, 0, 0, 0, 0, 0, 0, 0, 0, 0, 0, 0, 1, 2].as_slice()
     );
-    let most = pad_bytes(
-        Some(Answer { value: u64::MAX }),
-        Progress { value: u64::MAX },
-    );
+    let most = pad_bytes(PadContent {
+        answer: Some(Answer { value: u64::MAX }),
+        progress: Progress { value: u64::MAX },
+    });
     assert_eq!(rt;
         most.as_slice(),
         [
@@ -23,11 +28,8 @@ fn pads(rt: HostRuntime) {
     );
 }
 
-fn frame_length(kind: u16, args: &[u8]) -> u64 {
-    match frame_bytes(kind, args) {
-        Ok(frame) => frame.as_slice().len() as u64,
-        Err(fault) => u64::from(fault.number()),
-    }
+fn frame_length(kind: u16, args: &[u8]) -> Told {
+    told(frame_bytes(kind, args).map(|frame| frame.as_slice().len() as u64))
 }
 
 #[test]
@@ -38,27 +40,23 @@ fn frames(rt: HostRuntime) {
             frame_length(1, &[0; 255]),
             frame_length(1, &[0; 256]),
         ],
-        [39, 294, 5]
+        [Ok(39), Ok(294), Err((5, 0))]
     );
-    match frame_bytes(513, &[7]) {
-        Ok(frame) => {
-            let bytes = frame.as_slice();
-            assert_eq!(rt; bytes.first().copied(), Some(0));
-            assert_eq!(rt;
-                [bytes.get(1).copied(), bytes.get(2).copied()],
-                [Some(1), Some(2)]
-            );
-            assert_eq!(rt;
-                [
-                    bytes.get(3).copied(),
-                    bytes.get(4).copied(),
-                    bytes.get(39).copied(),
-                ],
-                [Some(1), Some(7), Some(1)]
-            );
-        }
-        Err(_) => assert!(rt; false),
-    }
+    let frame = frame_bytes(513, &[7]).expect(&rt, "a frame with one argument byte");
+    let bytes = frame.as_slice();
+    assert_eq!(rt; bytes.first().copied(), Some(0));
+    assert_eq!(rt;
+        [bytes.get(1).copied(), bytes.get(2).copied()],
+        [Some(1), Some(2)]
+    );
+    assert_eq!(rt;
+        [
+            bytes.get(3).copied(),
+            bytes.get(4).copied(),
+            bytes.get(39).copied(),
+        ],
+        [Some(1), Some(7), Some(1)]
+    );
 }
 
 // The bottom's marker on a fresh stack, after a call, a give, a call and a give.
@@ -73,12 +71,12 @@ fn markers(rt: HostRuntime) {
     let again = given.called();
     assert_eq!(rt;
         [
-            fresh.byte(),
-            called.byte(),
-            given.byte(),
-            again.byte(),
-            again.given().byte(),
-            fresh.noted().byte(),
+            u8::from(fresh),
+            u8::from(called),
+            u8::from(given),
+            u8::from(again),
+            u8::from(again.given()),
+            u8::from(fresh.noted()),
         ],
         [1, 0, 3, 2, 1, 3]
     );

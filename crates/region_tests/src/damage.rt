@@ -1,9 +1,8 @@
-// A region of two frames, and every kind of damage. An answer is told as a pair: 0 and the place behind the frame, or a fault's number
-// and detail.
+// A region of two frames, and every kind of damage. An answer is told by the place behind the frame, or by a fault's number and detail.
+use crate::told::{Told, told};
 use board::through::ThroughBoard;
-use model::faults::StackFault;
 use region::format::format;
-use region::read::{read_frame, read_header};
+use region::read::{Spot, read_frame, read_header};
 
 // The last frame ends exactly at the region's end.
 const SIZE: usize = 83;
@@ -18,27 +17,15 @@ fn two_frames() -> [u8; SIZE] {
     bytes
 }
 
-fn told(fault: StackFault) -> (u64, u64) {
-    (u64::from(fault.number()), fault.detail())
-}
-
 // The frame at place `first` of the first `size` places.
-fn frame(mut bytes: [u8; SIZE], size: usize, below: usize, first: usize) -> (u64, u64) {
-    match read_frame(
-        &ThroughBoard::over(&mut bytes[..size.min(SIZE)]),
-        below,
-        first,
-    ) {
-        Ok(head) => (0, head.extent.end() as u64),
-        Err(fault) => told(fault),
-    }
+fn frame(mut bytes: [u8; SIZE], size: usize, below: usize, first: usize) -> Told {
+    let board = ThroughBoard::over(&mut bytes[..size.min(SIZE)]);
+    told(read_frame(&board, Spot { first, below }).map(|head| head.extent.end() as u64))
 }
 
-fn header(mut bytes: [u8; SIZE], size: usize) -> (u64, u64) {
-    match read_header(&ThroughBoard::over(&mut bytes[..size.min(SIZE)])) {
-        Ok(()) => (0, 0),
-        Err(fault) => told(fault),
-    }
+fn header(mut bytes: [u8; SIZE], size: usize) -> Told {
+    let board = ThroughBoard::over(&mut bytes[..size.min(SIZE)]);
+    told(read_header(&board).map(|()| 0))
 }
 
 // Two frames, with one byte changed.
@@ -51,30 +38,34 @@ fn changed(place: usize, byte: u8) -> [u8; SIZE] {
 }
 
 // The upper frame, with one byte changed.
-fn upper(place: usize, byte: u8) -> (u64, u64) {
+fn upper(place: usize, byte: u8) -> Told {
     frame(changed(place, byte), SIZE, 1, 44)
 }
 
 // The bottom frame, with one byte changed.
-fn bottom(place: usize, byte: u8) -> (u64, u64) {
+fn bottom(place: usize, byte: u8) -> Told {
     frame(changed(place, byte), SIZE, 0, 5)
 }
 
-// A frame with 255 arguments, or with 256.
-fn long_frame(most: bool) -> (u64, u64) {
+// A frame with so many arguments.
+fn long_frame(count: u16) -> Told {
     let mut bytes = [0; 400];
+    let [high, low] = count.to_be_bytes();
+    bytes[44] = high;
+    bytes[45] = low;
     bytes[47] = 1;
-    if most {
-        bytes[45] = 255;
-        bytes[337] = 1;
-    } else {
-        bytes[44] = 1;
-        bytes[338] = 1;
+    if let Some(marker) = bytes.get_mut(82 + usize::from(count)) {
+        *marker = 1;
     }
-    match read_frame(&ThroughBoard::over(&mut bytes), 1, 44) {
-        Ok(head) => (0, head.extent.end() as u64),
-        Err(fault) => told(fault),
-    }
+    let board = ThroughBoard::over(&mut bytes);
+    told(read_frame(
+        &board,
+        Spot {
+            first: 44,
+            below: 1,
+        },
+    )
+    .map(|head| head.extent.end() as u64))
 }
 
 // A frame that ends at the region's end is read; one that passes it is not, nor where only its first bytes would.
@@ -88,7 +79,7 @@ fn ends_of_frames(rt: HostRuntime) {
             frame(bytes, 82, 1, 44),
             frame(bytes, 83, 1, 45),
         ],
-        [(0, 44), (0, 83), (11, 44), (11, 45)]
+        [Ok(44), Ok(83), Err((11, 44)), Err((11, 45))]
     );
     assert_eq!(rt;
         [
@@ -97,7 +88,12 @@ fn ends_of_frames(rt: HostRuntime) {
             frame(bytes, 83, 1, 83),
             frame(bytes, 83, 1, usize::MAX),
         ],
-        [(11, 44), (11, 81), (11, 83), (11, u64::MAX)]
+        [
+            Err((11, 44)),
+            Err((11, 81)),
+            Err((11, 83)),
+            Err((11, u64::MAX))
+        ]
     );
 }
 
@@ -106,9 +102,12 @@ fn ends_of_frames(rt: HostRuntime) {
 fn kinds_and_counts(rt: HostRuntime) {
     assert_eq!(rt;
         [bottom(8, 1), bottom(6, 1), upper(47, 0), upper(46, 255)],
-        [(11, 5), (11, 5), (11, 44), (0, 83)]
+        [Err((11, 5)), Err((11, 5)), Err((11, 44)), Ok(83)]
     );
-    assert_eq!(rt; [long_frame(true), long_frame(false)], [(0, 338), (11, 44)]);
+    assert_eq!(rt;
+        [long_frame(255), long_frame(256)],
+        [Ok(338), Err((11, 44))]
+    );
 }
 
 // Markers above 3 and live tags above 1 are damage; an idle tag is not looked at.
@@ -116,11 +115,11 @@ fn kinds_and_counts(rt: HostRuntime) {
 fn markers_and_tags(rt: HostRuntime) {
     assert_eq!(rt;
         [upper(82, 3), upper(82, 4), upper(82, 255), bottom(43, 4)],
-        [(0, 83), (11, 44), (11, 44), (11, 5)]
+        [Ok(83), Err((11, 44)), Err((11, 44)), Err((11, 5))]
     );
     assert_eq!(rt;
         [upper(48, 1), upper(48, 2), upper(65, 2), bottom(9, 2)],
-        [(0, 83), (11, 44), (0, 83), (11, 5)]
+        [Ok(83), Err((11, 44)), Ok(83), Err((11, 5))]
     );
 }
 
@@ -134,7 +133,7 @@ fn too_many_frames(rt: HostRuntime) {
             frame(bytes, 83, 64, 44),
             frame(bytes, 83, 64, 83),
         ],
-        [(0, 83), (11, 44), (11, 83)]
+        [Ok(83), Err((11, 44)), Err((11, 83))]
     );
 }
 
@@ -144,7 +143,7 @@ fn headers(rt: HostRuntime) {
     let bytes = two_frames();
     assert_eq!(rt;
         [header(bytes, 83), header(bytes, 43), header(bytes, 44)],
-        [(0, 0), (8, 0), (10, 0)]
+        [Ok(0), Err((8, 0)), Err((10, 0))]
     );
     assert_eq!(rt;
         [
@@ -153,6 +152,6 @@ fn headers(rt: HostRuntime) {
             header(changed(0, 2), 44),
             header(changed(0, 2), 43),
         ],
-        [(10, 0), (9, 0), (9, 0), (8, 0)]
+        [Err((10, 0)), Err((9, 0)), Err((9, 0)), Err((8, 0))]
     );
 }

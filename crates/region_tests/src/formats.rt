@@ -1,23 +1,15 @@
 // Formats of boards of several sizes, with and without power.
+use crate::told::{Told, told};
 use board::Board;
 use board::line::{Cell, LineBoard};
 use board::through::ThroughBoard;
-use model::faults::StackFault;
 use region::format::format;
 
-// 0 and the number of writing calls, or a fault's number and detail.
-fn told(answer: Result<u64, StackFault>) -> (u64, u64) {
-    match answer {
-        Ok(carried) => (0, carried),
-        Err(fault) => (u64::from(fault.number()), fault.detail()),
-    }
-}
-
-fn on_through(bytes: &mut [u8]) -> (u64, u64) {
+fn on_through(bytes: &mut [u8]) -> Told {
     told(format(&mut ThroughBoard::over(bytes)))
 }
 
-fn on_line(supply: u64) -> (u64, u64) {
+fn on_line(supply: u64) -> Told {
     let mut cells = [Cell::settled_at(0); 44];
     let mut board = LineBoard::over(&mut cells);
     board.cut(&[], Some(supply));
@@ -33,7 +25,7 @@ fn sizes(rt: HostRuntime) {
             on_through(&mut [9; 44]),
             on_through(&mut [9; 400]),
         ],
-        [(8, 0), (8, 0), (0, 93), (0, 93)]
+        [Err((8, 0)), Err((8, 0)), Ok(93), Ok(93)]
     );
 }
 
@@ -41,6 +33,6 @@ fn sizes(rt: HostRuntime) {
 fn supplies(rt: HostRuntime) {
     assert_eq!(rt;
         [on_line(0), on_line(3), on_line(50), on_line(51)],
-        [(1, 0), (1, 3), (1, 50), (0, 51)]
+        [Err((1, 0)), Err((1, 3)), Err((1, 50)), Ok(51)]
     );
 }

@@ -10,3 +10,5 @@ mod damage;
 mod formats;
 #[cfg(test)]
 mod rounds;
+#[cfg(test)]
+mod told;

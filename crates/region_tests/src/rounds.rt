@@ -1,11 +1,12 @@
 // The two rounds of each change, put together by hand on both makes of board, against the plain stack.
+use crate::told::told;
 use board::line::{Cell, LineBoard};
 use board::rounds::write_round;
 use board::through::ThroughBoard;
 use board::{Board, Slip};
 use plain::{Answer, PlainFrame, PlainStack, Progress};
 use region::format::format;
-use region::read::{read_bytes, read_frame};
+use region::read::{FrameHead, PadContent, Spot, read_bytes, read_frame};
 use region::write::{frame_bytes, pad_bytes};
 use std::process::Abort;
 use std::test::Fail;
@@ -15,24 +16,35 @@ fn write<B: Board>(board: &mut B, at: usize, bytes: &[u8]) {
     let _ = write_round(board, slip, at, bytes);
 }
 
-// A call on top of the frame at `first`.
-fn call<B: Board>(board: &mut B, below: usize, first: usize, kind: u16, args: &[u8]) {
-    if let Ok(top) = read_frame(board, below, first) {
+// The bottom, and the frame above it.
+const BOTTOM: Spot = Spot { first: 5, below: 0 };
+
+const UPPER: Spot = Spot {
+    first: 44,
+    below: 1,
+};
+
+// A call on top of the frame at a spot.
+fn call<B: Board>(board: &mut B, spot: Spot, kind: u16, args: &[u8]) {
+    if let Ok(top) = read_frame(board, spot) {
         if let Ok(frame) = frame_bytes(kind, args) {
             write(board, top.extent.end(), frame.as_slice());
             write(
                 board,
                 top.extent.marker_place(),
-                &[top.marker.called().byte()],
+                &[u8::from(top.marker.called())],
             );
         }
     }
 }
 
-// A note in the frame at `first`.
-fn note<B: Board>(board: &mut B, below: usize, first: usize, progress: Progress) {
-    if let Ok(top) = read_frame(board, below, first) {
-        let pad = pad_bytes(None, progress);
+// A note in the frame at a spot.
+fn note<B: Board>(board: &mut B, spot: Spot, progress: Progress) {
+    if let Ok(top) = read_frame(board, spot) {
+        let pad = pad_bytes(PadContent {
+            answer: None,
+            progress,
+        });
         write(
             board,
             top.extent.pad_place(top.marker.live.other()),
@@ -41,15 +53,18 @@ fn note<B: Board>(board: &mut B, below: usize, first: usize, progress: Progress)
         write(
             board,
             top.extent.marker_place(),
-            &[top.marker.noted().byte()],
+            &[u8::from(top.marker.noted())],
         );
     }
 }
 
-// A give to the frame at `first`.
-fn give<B: Board>(board: &mut B, below: usize, first: usize, answer: Answer) {
-    if let Ok(under) = read_frame(board, below, first) {
-        let pad = pad_bytes(Some(answer), under.progress);
+// A give to the frame at a spot.
+fn give<B: Board>(board: &mut B, spot: Spot, answer: Answer) {
+    if let Ok(under) = read_frame(board, spot) {
+        let pad = pad_bytes(PadContent {
+            answer: Some(answer),
+            ..under.pad
+        });
         write(
             board,
             under.extent.pad_place(under.marker.live.other()),
@@ -58,55 +73,59 @@ fn give<B: Board>(board: &mut B, below: usize, first: usize, answer: Answer) {
         write(
             board,
             under.extent.marker_place(),
-            &[under.marker.given().byte()],
+            &[u8::from(under.marker.given())],
         );
     }
 }
 
-// An answer as one number: 0 for none, else one more.
-fn number(answer: Option<Answer>) -> u64 {
-    match answer {
-        Some(answer) => answer.value.saturating_add(1),
-        None => 0,
+// What frames of both kinds tell.
+#[derive(Clone, Copy, PartialEq, Eq, Debug)]
+struct Frame {
+    kind: u16,
+    count: usize,
+    progress: Progress,
+    answer: Option<Answer>,
+}
+
+impl From<FrameHead> for Frame {
+    fn from(head: FrameHead) -> Frame {
+        Frame {
+            kind: head.kind,
+            count: head.extent.count,
+            progress: head.pad.progress,
+            answer: head.pad.answer,
+        }
     }
 }
 
-// Kind, number of arguments, progress and answer; and whether the stack ends there.
-fn told<B: Board>(board: &B, below: usize, first: usize) -> ([u64; 4], bool) {
-    match read_frame(board, below, first) {
-        Ok(head) => (
-            [
-                u64::from(head.kind),
-                head.extent.count as u64,
-                head.progress.value,
-                number(head.answer),
-            ],
-            head.marker.last,
-        ),
-        Err(_) => ([u64::MAX; 4], false),
+impl From<&PlainFrame> for Frame {
+    fn from(frame: &PlainFrame) -> Frame {
+        Frame {
+            kind: frame.kind,
+            count: frame.args.len(),
+            progress: frame.progress,
+            answer: frame.answer,
+        }
     }
 }
 
-fn plain_told(frame: &PlainFrame) -> [u64; 4] {
-    [
-        u64::from(frame.kind),
-        frame.args.len() as u64,
-        frame.progress.value,
-        number(frame.answer),
-    ]
+// The frame at a spot, and whether the stack ends there.
+fn found<B: Board>(board: &B, spot: Spot) -> Option<(Frame, bool)> {
+    let head = read_frame(board, spot).ok()?;
+    Some((Frame::from(head), head.marker.last))
 }
 
 // The frames at these places are those of the plain stack, and the stack ends at the last.
 fn same<B: Board>(rt: &impl Abort, board: &B, places: &[usize], plain: &PlainStack) {
     let frames = plain.frames();
     assert_eq!(rt; frames.len(), places.len());
-    for i in 0..places.len() {
-        if let Some(frame) = frames.get(i) {
-            assert_eq!(rt;
-                told(board, i, places[i]),
-                (plain_told(frame), i == places.len() - 1)
-            );
-        }
+    for (below, (frame, first)) in frames.iter().zip(places).enumerate() {
+        let spot = Spot {
+            first: *first,
+            below,
+        };
+        let last = Some(first) == places.last();
+        assert_eq!(rt; found(board, spot), Some((Frame::from(frame), last)));
     }
 }
 
@@ -117,21 +136,21 @@ fn changes<B: Board>(rt: &(impl Abort + AllocGlobal), board: &mut B) -> Result<(
     assert!(rt; format(board).is_ok());
     same(rt, board, &[5], &plain);
     plain.call(1, &args)?;
-    call(board, 0, 5, 1, &args);
+    call(board, BOTTOM, 1, &args);
     same(rt, board, &[5, 44], &plain);
     plain.note(Progress { value: 5 });
-    note(board, 1, 44, Progress { value: 5 });
+    note(board, UPPER, Progress { value: 5 });
     plain.call(2, &[])?;
-    call(board, 1, 44, 2, &[]);
+    call(board, UPPER, 2, &[]);
     same(rt, board, &[5, 44, 86], &plain);
     assert!(rt; plain.give(Answer { value: 6 }));
-    give(board, 1, 44, Answer { value: 6 });
+    give(board, UPPER, Answer { value: 6 });
     same(rt, board, &[5, 44], &plain);
     let mut found = [0; 3];
     assert!(rt; read_bytes(board, 48, &mut found).is_ok());
     assert_eq!(rt; found, args);
     assert!(rt; plain.give(Answer { value: 7 }));
-    give(board, 0, 5, Answer { value: 7 });
+    give(board, BOTTOM, Answer { value: 7 });
     same(rt, board, &[5], &plain);
     assert!(rt; !plain.give(Answer { value: 8 }));
     same(rt, board, &[5], &plain);
@@ -156,10 +175,8 @@ fn reads_past_the_end(rt: HostRuntime) {
     let mut bytes = [1, 2, 3];
     let board = ThroughBoard::over(&mut bytes);
     let mut found = [9; 2];
-    match read_bytes(&board, 2, &mut found) {
-        Ok(()) => assert!(rt; false),
-        Err(fault) => assert_eq!(rt; (fault.number(), fault.detail()), (2, 3)),
-    }
+    let answer = read_bytes(&board, 2, &mut found);
+    assert_eq!(rt; told(answer.map(|()| 0)), Err((2, 3)));
     assert_eq!(rt; found, [9, 9]);
     assert!(rt; read_bytes(&board, 1, &mut found).is_ok());
     assert_eq!(rt; found, [2, 3]);

@@ -1,49 +1,35 @@
 -- A format over the old region, cut off anywhere, and what is found of it.
-use Rattle.std.proofs.Common.{◌≡◌, ℕ, ◌+◌, ◌<◌, ◌≤◌, ◌⊎◌, List, [], ◌∷◌, length, get_or, take, None, Option, sym, ap, ◌∙◌, subst, inl, inr, ⊎_elim, arith}
+use Rattle.std.proofs.Common.{◌≡◌, ℕ, ◌+◌, ◌<◌, ◌≤◌, ◌⊎◌, List, [], ◌∷◌, length, get_or, take, None, Ok, Err, Option, Result, MatchResult, sym, ap, ◌∙◌, subst, inl, inr, ⊎_elim, arith}
 use Rattle.std.proofs.lemmas.Bool.{cases_lt}
-use Rattle.std.proofs.lemmas.List.{take_all, ext_get_or}
+use Rattle.std.proofs.lemmas.List.{ext_get_or}
 use Rattle.model.specs.declared.faults.StackFault.{StackFault}
 use Rattle.model.specs.Places.{settled, present}
 use Rattle.model.specs.Faults.{stack_detail}
-use Rattle.model.specs.Writes.{Meaning, bytes, Cut, Ran}
-use Rattle.model.proofs.Places.{byte_at, cut_supplies}
+use Rattle.model.specs.Writes.{Meaning, bytes, Cut}
+use Rattle.model.proofs.Places.{byte_at}
 use Rattle.model.proofs.Lists.{ran_size}
 use Rattle.region.specs.Numbers.{part}
 use Rattle.layout.specs.Layout.{version_at, least_size}
 use Rattle.region.specs.Frames.{SizeAllowed}
 use Rattle.region.specs.Plans.{bottom, blank, fill, format_plan}
 use Rattle.region.specs.Cuts.{Finds, IsAsBefore, FormatFound, Blank as FoundBlank}
-use Rattle.region.specs.Operations.{Formatted, FormatStopped, FormatRefused}
+use Rattle.region.specs.Operations.{FormatAnswered}
 use Rattle.region.proofs.Numbers.{length-part, get_or-part}
 use Rattle.region.proofs.Formats.{format_cut}
 use Rattle.survey.specs.declared.formats.Finding.{Finding}
 use Rattle.survey.specs.declared.formats.Finding.TheVariants.{AsBefore, Blank, Empty}
 use Rattle.survey.specs.Record.{Prepared}
 use Rattle.survey.specs.Formats.{before_bytes, Classed, StoppedFormat, Shows, FormatShown}
-use Rattle.survey.proofs.Updates.{ran_carries, broken_carries}
+use Rattle.survey.proofs.Updates.{CarriedOut, all_carried, some_carried}
 
-pub stopped_whole : (L k : ℕ) (s : Option ℕ) (m n : Meaning) → Prepared 0 before_bytes s m → Formatted L m k n → StoppedFormat L s k n
-stopped_whole L k s m n p f =
-    let ws = format_plan L m.size in
-    record {
-      start = m;
-      fits = f.size_allowed;
-      old = p;
-      count = f.count ∙ ran_carries L ws s m n p.supply f.ran;
-      ran = subst (λ vs. Ran L vs m n) (sym (take_all k ws (omega (arith, f.count)))) f.ran;
-    }
-
-pub stopped_short : (L k : ℕ) (s : Option ℕ) (m n : Meaning) (e : StackFault) → Prepared 0 before_bytes s m → SizeAllowed m.size → k ≡ stack_detail e → FormatStopped L m e n ⊎ FormatRefused m e n → StoppedFormat L s k n
-stopped_short L k s m n e p fits d (inl f) =
-    let same : f.carried ≡ k = sym (d ∙ f.fault.2) in
-    record {
-      start = m;
-      fits = fits;
-      old = p;
-      count = sym same ∙ broken_carries (format_plan L m.size) f.carried s (sym p.supply ∙ f.broken.supply) f.broken.short;
-      ran = subst (λ j. Ran L (take j (format_plan L m.size)) m n) same f.broken.ran;
-    }
-stopped_short L k s m n e p fits d (inr f) = absurd (f.not_allowed fits)
+-- a format over the old region, whatever it answers
+pub stopped : (L k : ℕ) (s : Option ℕ) (m n : Meaning) (r : Result ℕ StackFault) → Prepared 0 before_bytes s m → SizeAllowed m.size → FormatAnswered L m r n → MatchResult r (λ j. k ≡ j) (λ e. k ≡ stack_detail e) → StoppedFormat L s k n
+stopped L k s m n r p fits f e = record { start = m; fits = fits; old = p; count = (out r f e).count; ran = (out r f e).ran }
+  where
+    out : (r : Result ℕ StackFault) → FormatAnswered L m r n → MatchResult r (λ j. k ≡ j) (λ e. k ≡ stack_detail e) → CarriedOut L (format_plan L m.size) s k m n
+    out (Ok j) f e = all_carried L _ s k m n p.supply (e ∙ f.count) f.ran
+    out (Err x) (inl f) e = some_carried L _ s _ k m n p.supply (e ∙ f.fault.2) f.broken
+    out (Err x) (inr f) e = absurd (f.not_allowed fits)
 
 -- a format that was cut off leaves one of three
 one_of_three : (L k : ℕ) (m o : Meaning) → FormatFound L k m o → IsAsBefore m o ⊎ (FoundBlank o ⊎ Finds o (bottom ∷ []))
@@ -82,8 +68,8 @@ module _ (s : Option ℕ) (m o : Meaning) (p : Prepared 0 before_bytes s m) (lon
 pub format_shown : (L k : ℕ) (s : Option ℕ) (n o : Meaning) (bs : List ℕ) (f : Finding) → 0 < L → StoppedFormat L s k n → Cut None n o → (least_size ≤ o.size → bs ≡ part (bytes o) 0 least_size) → Classed f bs → FormatShown L s f o
 format_shown L k s n o bs f some stopped cut seen c =
     let m = stopped.start in
-    let size : o.size ≡ m.size = (cut_supplies n o None cut).0 ∙ ran_size L (take k (format_plan L m.size)) m n stopped.ran in
-    let long : least_size ≤ o.size = omega (arith, stopped.fits.0, size) in
+    let kept = ran_size L (take k (format_plan L m.size)) m n stopped.ran in
+    let long : least_size ≤ o.size = omega (arith, stopped.fits.0) in
     let first : m.at version_at ≡ settled 1 = stopped.old.places 0 (omega arith) in
     record {
       carried = k;
@@ -92,3 +78,6 @@ format_shown L k s n o bs f some stopped cut seen c =
       cut = cut;
       shows = shows s m o stopped.old long bs (seen long) f c (one_of_three L k m o (format_cut L k 1 m n o None some stopped.fits first stopped.ran cut));
     }
+
+pub format_size : (L : ℕ) (s : Option ℕ) (f : Finding) (o : Meaning) → FormatShown L s f o → SizeAllowed o.size
+format_size L s f o x = subst SizeAllowed (sym (x.cut.size ∙ ran_size L _ x.stopped.start x.before x.stopped.ran)) x.stopped.fits

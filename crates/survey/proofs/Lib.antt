@@ -1,3 +1,2 @@
 mod Updates
-mod Images
 mod Findings

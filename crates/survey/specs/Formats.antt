@@ -1,5 +1,6 @@
 -- A format over a region that holds something, and what may be found of it.
-use Rattle.std.specs.Prelude.{◌≡◌, ℕ, ◌<◌, List, [], ◌∷◌, take, None, codes, Option, ◌≢◌, slice_index}
+use Rattle.std.specs.Prelude.{◌≡◌, ℕ, ◌-◌, ◌^◌, ◌<◌, List, [], ◌∷◌, ◌++◌, take, Some, None, codes, Option, ◌≢◌, slice_index}
+use Rattle.std.specs.Fmt.{format_spec, padded}
 use Rattle.model.specs.Places.{settled}
 use Rattle.model.specs.Writes.{Meaning, Cut, Ran}
 use Rattle.layout.specs.declared.marker.Pad.TheVariants.{One}
@@ -10,7 +11,10 @@ use Rattle.region.specs.Plans.{bottom, format_plan}
 use Rattle.region.specs.Cuts.{Finds, Blank as FoundBlank}
 use Rattle.survey.specs.declared.formats.Finding.{Finding}
 use Rattle.survey.specs.declared.formats.Finding.TheVariants.{AsBefore, Blank, Empty}
+use Rattle.survey.specs.declared.formats.Run.{Run}
+use Rattle.survey.specs.declared.kept.Kept.{Kept}
 use Rattle.survey.specs.Record.{Prepared, carries}
+use Rattle.survey.specs.Rows.{left, right}
 
 -- the region before the format: a bottom frame whose pad 1 is live, with progress 7
 abbrev pub old_bottom : Located
@@ -51,3 +55,15 @@ pub record FormatShown (L : ℕ) (s : Option ℕ) (f : Finding) (o : Meaning) : 
   pub stopped : StoppedFormat L s carried before
   pub cut : Cut None before o
   pub shows : Shows f o
+
+-- the finding, left in a column of 9 places
+abbrev pub finding_column : Finding → List ℕ
+finding_column f = padded (format_spec 32 1 0 9 (2 ^ 64 - 1)) (finding_text f)
+
+abbrev pub run_text : Run → List ℕ
+run_text r = right 6 r.first ++ (codes " to " ++ (left 6 r.last ++ (codes " " ++ (finding_column r.kept.old ++ (codes "  " ++ finding_text r.kept.new)))))
+
+-- what was found with the supply s after a cut that keeps the old bytes, and then, on board o, after one that keeps the new ones
+pub record KeptShown (L s : ℕ) (k : Kept Finding) (o : Meaning) : Type 0 where
+  pub old : (p : Meaning) × FormatShown L (Some s) k.old p
+  pub new : FormatShown L (Some s) k.new o

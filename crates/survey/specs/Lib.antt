@@ -1,2 +1,3 @@
 pub mod Record
+pub mod Rows
 pub mod Formats

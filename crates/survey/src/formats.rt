@@ -1,17 +1,17 @@
 // A format over a region that holds something, cut off at every supply.
-ghost use Rattle.std.specs.Prelude.{◌≡◌, ◌≤◌, Some, None};
-ghost use Rattle.model.specs.Writes.{bytes, Cut};
-ghost use Rattle.layout.specs.Layout.{least_size};
+ghost use Rattle.std.specs.Prelude.{◌≡◌, Some, None};
+ghost use Rattle.std.specs.Fmt.{padded};
+ghost use Rattle.model.specs.Writes.{Cut};
 ghost use Rattle.region.specs.Frames.{SizeAllowed};
-ghost use Rattle.region.specs.Numbers.{part};
-ghost use Rattle.survey.specs.Formats.{finding_text, Classed, StoppedFormat, FormatShown};
+ghost use Rattle.survey.specs.Formats.{finding_text, Classed, StoppedFormat, FormatShown, KeptShown, run_text};
 
-use crate::record::prepare;
+use crate::kept::Kept;
+use crate::record::{prepare, present_bytes};
 use board::Board;
 use layout::LEAST_SIZE;
+use model::faults::Fault;
 use region::format::format;
-use region::read::read_bytes;
-use std::io;
+use std::{fmt, io};
 
 // The region before the format, on a board of 128 places: a bottom frame whose pad 1 is live, with progress 7.
 const BEFORE: [u8; LEAST_SIZE] = [
@@ -31,96 +31,121 @@ pub enum Finding {
 }
 
 impl Finding {
-    fn text(self) -> &'static str
-        ensures { result.now ≡ finding_text self }
+    // Which of the three these bytes are: neither blank nor as before is taken for empty, and `found` is proved to be right in that.
+    fn of(found: &[u8; LEAST_SIZE]) -> Finding
+        ensures { Classed result found.now }
     {
-        match self {
-            Finding::AsBefore => "as before",
-            Finding::Blank => "blank",
-            Finding::Empty => "empty",
+        match *found {
+            [0, ..] => Finding::Blank,
+            BEFORE => Finding::AsBefore,
+            _ => Finding::Empty,
         }
     }
 }
 
-// Which of the three these bytes are: neither blank nor as before is taken for empty, and `found` is proved to be right in that.
-fn classify(found: &[u8; LEAST_SIZE]) -> Finding
-    ensures { Classed result found.now }
-{
-    if found[0] == 0 {
-        Finding::Blank
-    } else if *found == BEFORE {
-        Finding::AsBefore
-    } else {
-        Finding::Empty
+impl fmt::Display for Finding {
+    ghost output = { λ finding. Some (finding_text finding) };
+
+    ghost styled_output = { λ finding spec. Some (padded spec (finding_text finding)) };
+
+    fn fmt<W: fmt::Write>(&self, f: &mut fmt::Formatter<W>) -> fmt::Result {
+        f.pad(match self {
+            Finding::AsBefore => "as before",
+            Finding::Blank => "blank",
+            Finding::Empty => "empty",
+        })
     }
 }
 
-// The present bytes of places 0 to 43.
-fn first_places<B: Board>(board: &B) -> [u8; LEAST_SIZE]
-    ensures { least_size ≤ (B.meaning board.now).size → result ≡ part (bytes (B.meaning board.now)) 0 least_size }
-{
-    let mut bytes = [0; LEAST_SIZE];
-    let _ = read_bytes(board, 0, &mut bytes);
-    bytes
+// Which bytes a cut is to keep of a place that was written and not settled.
+#[derive(Clone, Copy)]
+enum Wish {
+    Old,
+    New,
 }
 
 // Formats the region, and answers how many writing calls were carried out.
+// kept: the size stands in each clause here too, as in `record::update`.
 fn start_format<B: Board>(board: &mut B, supply: Option<u64>) -> u64
     ensures { SizeAllowed (B.meaning board.old).size → StoppedFormat B.width supply result (B.meaning board.new) }
 {
     prepare(board, supply, 0, &BEFORE);
-    match format(board) {
-        Ok(carried) => carried,
-        Err(fault) => fault.detail(),
+    format(board).unwrap_or_else(Fault::detail)
+}
+
+// Cuts the power. A board that follows the wanted bytes keeps those of the wish: the new ones are the present ones, and no byte is wanted
+// for the old ones.
+fn cut<B: Board>(board: &mut B, wish: Wish)
+    ensures { Cut None (B.meaning board.old) (B.meaning board.new) }
+{
+    match wish {
+        Wish::Old => board.cut(&[], None),
+        Wish::New => board.cut(&present_bytes::<LEAST_SIZE, B>(board, 0), None),
     }
 }
 
-// Formats the region and cuts the power, wanting the new bytes or the old ones, and answers what is found.
-fn found<B: Board>(board: &mut B, supply: u64, new: bool) -> Finding
+// Formats the region and cuts the power, and answers what is found.
+fn found<B: Board>(board: &mut B, supply: u64, wish: Wish) -> Finding
     ensures { SizeAllowed (B.meaning board.old).size → FormatShown B.width (Some supply) result (B.meaning board.new) }
 {
     let _ = start_format(board, Some(supply));
-    cut(board, new);
-    classify(&first_places(board))
+    cut(board, wish);
+    Finding::of(&present_bytes(board, 0))
 }
 
-// Cuts the power: a board that follows the wanted bytes keeps the new ones, or the old ones.
-fn cut<B: Board>(board: &mut B, new: bool)
-    ensures { Cut None (B.meaning board.old) (B.meaning board.new) }
-{
-    if new {
-        let present = first_places(board);
-        board.cut(&present, None);
-    } else {
-        board.cut(&[], None);
-    }
+// The supplies from `first` to `last`, which have equal findings.
+#[derive(Clone, Copy)]
+struct Run {
+    first: u64,
+    last: u64,
+    kept: Kept<Finding>,
 }
 
-// Prints one line for supplies with equal findings.
-fn line(rt: &HostRuntime, first: u64, last: u64, low: Finding, high: Finding) -> io::Result<()> {
-    println!(rt;
-        "{first:>6} to {last:<6} {:<9}  {}",
-        low.text(),
-        high.text()
-    )
-}
-
-// Prints the findings of one board: a line for each stretch of supplies with equal ones.
-pub(crate) fn survey_format<B: Board>(rt: &HostRuntime, board: &mut B) -> io::Result<()> {
-    println!(rt; "      supply     old kept   new kept")?;
-    let needed = start_format(board, None);
-    let mut first = 0;
-    let mut low = found(board, 0, false);
-    let mut high = found(board, 0, true);
-    for supply in 1..needed.saturating_add(2) {
-        let next_low = found(board, supply, false);
-        let next_high = found(board, supply, true);
-        if next_low != low || next_high != high {
-            line(rt, first, supply - 1, low, high)?;
-            first = supply;
-            low = next_low;
-            high = next_high;
+impl Run {
+    // The run of one supply.
+    #[tactic(auto, using(crate::proofs::Findings::format_size))]
+    fn of<B: Board>(board: &mut B, supply: u64) -> Run
+        ensures first { result.first ≡ supply }
+        ensures last { result.last ≡ supply }
+        ensures kept { SizeAllowed (B.meaning board.old).size → KeptShown B.width supply result.kept (B.meaning board.new) }
+    {
+        let kept = Kept {
+            old: found(board, supply, Wish::Old),
+            new: found(board, supply, Wish::New),
+        };
+        Run {
+            first: supply,
+            last: supply,
+            kept,
         }
     }
-    line(rt, first, needed.saturating_add(1), low, high)
+}
+
+impl fmt::Display for Run {
+    ghost output = { λ run. Some (run_text run) };
+
+    fn fmt<W: fmt::Write>(&self, f: &mut fmt::Formatter<W>) -> fmt::Result {
+        write!(
+            f,
+            "{:>6} to {:<6} {:<9}  {}",
+            self.first, self.last, self.kept.old, self.kept.new
+        )
+    }
+}
+
+// Prints the findings of one board: a row for each run of supplies with equal ones.
+pub(crate) fn survey_format<B: Board>(rt: &impl Print, board: &mut B) -> io::Result<()> {
+    println!(rt; "      supply     old kept   new kept")?;
+    let needed = start_format(board, None);
+    let mut run = Run::of(board, 0);
+    for supply in 1..needed.saturating_add(2) {
+        let next = Run::of(board, supply);
+        if next.kept == run.kept {
+            run.last = supply;
+        } else {
+            println!(rt; "{run}")?;
+            run = next;
+        }
+    }
+    println!(rt; "{run}")
 }

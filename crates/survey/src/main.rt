@@ -7,6 +7,7 @@ use board::through::ThroughBoard;
 use std::io;
 
 mod formats;
+mod kept;
 mod record;
 mod table;
 
@@ -22,22 +23,17 @@ fn main(rt: HostRuntime) -> io::Result<()> {
     )?;
     println!(rt; "A loose place, marked x, may be found with its old or its new byte.")?;
     let mut cells = [Cell::settled_at(0); SIZE];
-    println!(rt; "")?;
-    println!(rt; "Line board, 64 places to a line")?;
+    println!(rt; "\nLine board, 64 places to a line")?;
     survey(&rt, &mut LineBoard::over(&mut cells))?;
     let mut bytes = [0; SIZE];
-    println!(rt; "")?;
-    println!(rt; "Through board, every byte lasts as it is stored")?;
+    println!(rt; "\nThrough board, every byte lasts as it is stored")?;
     survey(&rt, &mut ThroughBoard::over(&mut bytes))?;
-    println!(rt; "")?;
     println!(rt;
-        "A region whose bottom frame has progress 7 is formatted in three rounds, and the power is cut."
+        "\nA region whose bottom frame has progress 7 is formatted in three rounds, and the power is cut."
     )?;
     println!(rt; "Places 0 to 43 are then found:")?;
-    println!(rt; "")?;
-    println!(rt; "Line board")?;
+    println!(rt; "\nLine board")?;
     survey_format(&rt, &mut LineBoard::over(&mut cells))?;
-    println!(rt; "")?;
-    println!(rt; "Through board")?;
+    println!(rt; "\nThrough board")?;
     survey_format(&rt, &mut ThroughBoard::over(&mut bytes))
 }

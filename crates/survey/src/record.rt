@@ -1,16 +1,18 @@
 // The record, and its update on any board.
-ghost use Rattle.std.specs.Prelude.{◌≡◌, ℕ, ◌+◌, ◌<◌, ◌≤◌, length, slice_index};
-ghost use Rattle.model.specs.Places.{present};
-ghost use Rattle.survey.specs.Record.{record_at, record_size, record_end, Prepared, Updated, Shown, Found, OldOrNew};
+ghost use Rattle.std.specs.Prelude.{◌≡◌, ◌+◌, ◌<◌, ◌≤◌, ◌++◌, length, replicate};
+ghost use Rattle.model.specs.Writes.{bytes};
+ghost use Rattle.region.specs.Numbers.{part};
+ghost use Rattle.survey.specs.Record.{record_at, record_end, Prepared, Updated, Found, OldOrNew};
 
 use board::rounds::write_round;
 use board::{Board, Slip};
+use region::read::read_bytes;
 
 pub(crate) const LEN: usize = 8;
 // The record's first place: it crosses from the first line of the line board into the second.
 pub(crate) const AT: usize = 60;
 // The place behind the record.
-pub(crate) const END: usize = 68;
+const END: usize = AT + LEN;
 
 pub(crate) const OLD: [u8; LEN] = *b"old-vote";
 
@@ -28,46 +30,31 @@ pub(crate) fn prepare<B: Board>(board: &mut B, supply: Option<u64>, at: usize, b
 }
 
 // Updates the record, and answers how many writing calls were carried out.
+// kept: the size stands in each clause, since a shorter board is no error here: a struct over long boards would have to refuse one.
 pub(crate) fn update<B: Board>(board: &mut B, supply: Option<u64>) -> u64
     ensures { record_end ≤ (B.meaning board.old).size → Updated B.width supply result (B.meaning board.new) }
 {
     prepare(board, supply, AT, &OLD);
     let slip = Slip::take();
-    match write_round(board, slip, AT, &NEW) {
-        Ok(carried) => carried,
-        Err(stopped) => stopped.carried,
-    }
+    write_round(board, slip, AT, &NEW).unwrap_or_else(|stopped| stopped.carried)
 }
 
-// The present byte at a place; 0 past the board's end.
-fn byte_at<B: Board>(board: &B, place: usize) -> u8
-    ensures { place < (B.meaning board.now).size → result ≡ present ((B.meaning board.now).at place) }
+// The N present bytes from `at` on; zeros where they would pass the board's end.
+pub(crate) fn present_bytes<const N: usize, B: Board>(board: &B, at: usize) -> [u8; N]
+    ensures within { at + N ≤ (B.meaning board.now).size → result ≡ part (bytes (B.meaning board.now)) at N }
+    ensures outside { (B.meaning board.now).size < at + N → result ≡ replicate N 0 }
 {
-    match board.read(place) {
-        Ok(byte) => byte,
-        Err(_) => 0,
-    }
-}
-
-// Reads the record.
-fn read<B: Board>(board: &B) -> [u8; LEN]
-    ensures { record_end ≤ (B.meaning board.now).size → Shown (B.meaning board.now) result }
-{
-    let mut bytes = [0; LEN];
-    for i in 0..LEN {
-        bytes[i] = byte_at(board, AT + i);
-    }
+    let mut bytes = [0; N];
+    let _ = read_bytes(board, at, &mut bytes);
     bytes
 }
 
 // The bytes wanted of a cut, up to the record's end: these where the record is.
 fn image(wanted: &[u8; LEN]) -> [u8; END]
-    ensures { (k : ℕ) → k < record_size → slice_index result (record_at + k) ≡ slice_index wanted.now k }
+    ensures { result ≡ replicate record_at 0 ++ wanted.now }
 {
     let mut bytes = [0; END];
-    for i in 0..LEN {
-        bytes[AT + i] = wanted[i];
-    }
+    bytes[AT..].copy_from_slice(wanted);
     bytes
 }
 
@@ -78,5 +65,5 @@ pub(crate) fn found<B: Board>(board: &mut B, supply: Option<u64>, wanted: &[u8; 
 {
     let _ = update(board, supply);
     board.cut(&image(wanted), None);
-    read(board)
+    present_bytes(board, AT)
 }

@@ -1,13 +1,15 @@
-// The survey of one board: a line for each supply.
-ghost use Rattle.std.specs.Prelude.{◌≡◌, ℕ, ◌+◌, ◌<◌, true, false, ◌⊎◌, codes, IsUtf8, slice_index};
+// The survey of one board: a row for each supply.
+ghost use Rattle.std.specs.Prelude.{◌≡◌, ◌≤◌, ◌↔◌, IsTrue, false, ◌⊎◌, Some};
 ghost use Rattle.model.specs.Writes.{loose_at};
-ghost use Rattle.survey.specs.Record.{record_at, record_size, old_record, new_record, Sure, mark};
+ghost use Rattle.survey.specs.Record.{record_end, old_record, new_record, Sure, mark};
+ghost use Rattle.survey.specs.Rows.{Marked, RowShown, text_of, row_text};
 
+use crate::kept::Kept;
 use crate::record::{AT, LEN, NEW, OLD, found, update};
 use board::Board;
 use board::line::LineBoard;
 use board::through::ThroughBoard;
-use std::io;
+use std::{array, fmt, io};
 
 // A board of which it can be seen which places are loose.
 pub trait Peek: Board {
@@ -36,69 +38,92 @@ fn mark(loose: bool) -> u8
 
 // A mark for each place of the record.
 fn marks<B: Peek>(board: &B) -> [u8; LEN]
-    ensures { (k : ℕ) → k < record_size → slice_index result k ≡ mark (loose_at (B.Board.meaning board.now) (record_at + k)) }
+    ensures { Marked (B.Board.meaning board.now) result }
 {
-    let mut marks = [0; LEN];
-    for i in 0..LEN {
-        marks[i] = mark(board.is_loose(AT + i));
+    array::from_fn(|i| mark(board.is_loose(AT + i)))
+}
+
+impl Kept<[u8; LEN]> {
+    // Whether every image with each byte from the old bytes or from the new ones is this record.
+    fn is_sure(self, whole: &[u8; LEN]) -> bool
+        ensures { IsTrue result ↔ Sure self.old self.new whole.now }
+    {
+        self.old == *whole && self.new == *whole
     }
-    marks
-}
 
-// Whether every image with each byte from `low` or from `high` is this record.
-fn is_sure(low: &[u8; LEN], high: &[u8; LEN], whole: &[u8; LEN]) -> bool
-    ensures sure { result ≡ true → Sure low.now high.now whole.now }
-    ensures unsure { result ≡ false → Sure low.now high.now whole.now → ⊥ }
-{
-    *low == *whole && *high == *whole
-}
-
-// Whether the record could be found torn, where a cut may leave each byte as in `low` or as in `high`: it could, unless it is sure
-// to be the old record, or sure to be the new one.
-fn may_tear(low: &[u8; LEN], high: &[u8; LEN]) -> bool
-    ensures whole { result ≡ false → Sure low.now high.now old_record ⊎ Sure low.now high.now new_record }
-    ensures torn { result ≡ true → Sure low.now high.now old_record ⊎ Sure low.now high.now new_record → ⊥ }
-{
-    !is_sure(low, high, &OLD) && !is_sure(low, high, &NEW)
+    // Whether the record could be found torn, where a cut may leave each byte as in either: it could, unless it is sure to be the old
+    // record, or sure to be the new one.
+    fn may_tear(self) -> bool
+        ensures { result ≡ false ↔ Sure self.old self.new old_record ⊎ Sure self.old self.new new_record }
+    {
+        !self.is_sure(&OLD) && !self.is_sure(&NEW)
+    }
 }
 
 // The bytes as text, if they are.
 fn text(bytes: &[u8]) -> &str
-    ensures text { IsUtf8 bytes.now → result.now ≡ bytes.now }
-    ensures other { (IsUtf8 bytes.now → ⊥) → result.now ≡ codes "?" }
+    ensures { result.now ≡ text_of bytes.now }
 {
-    match std::str::from_utf8(bytes) {
-        Ok(text) => text,
-        Err(_) => "?",
+    std::str::from_utf8(bytes).unwrap_or("?")
+}
+
+// What one supply leaves of an update: how many calls are carried out, which places are loose then, and what each cut keeps.
+#[derive(Clone, Copy)]
+struct Row {
+    supply: u64,
+    carried: u64,
+    marks: [u8; LEN],
+    kept: Kept<[u8; LEN]>,
+}
+
+impl Row {
+    // The row of one supply.
+    fn of<B: Peek>(board: &mut B, supply: u64) -> Row
+        ensures supply { result.supply ≡ supply }
+        ensures marks { Marked (B.Board.meaning board.new) result.marks }
+        ensures shown { record_end ≤ (B.Board.meaning board.old).size → RowShown B.Board.width result (B.Board.meaning board.new) }
+    {
+        let kept = Kept {
+            old: found(board, Some(supply), &OLD),
+            new: found(board, Some(supply), &NEW),
+        };
+        let carried = update(board, Some(supply));
+        let marks = marks(board);
+        Row {
+            supply,
+            carried,
+            marks,
+            kept,
+        }
     }
 }
 
-// Prints the line of one supply, and answers whether the record could be found torn.
-fn line<B: Peek>(rt: &HostRuntime, board: &mut B, supply: u64) -> io::Result<bool> {
-    let low = found(board, Some(supply), &OLD);
-    let high = found(board, Some(supply), &NEW);
-    let carried = update(board, Some(supply));
-    let marks = marks(board);
-    println!(rt;
-        "{supply:>6} {carried:>7}  {}  {}  {}",
-        text(&marks),
-        text(&low),
-        text(&high)
-    )?;
-    Ok(may_tear(&low, &high))
+impl fmt::Display for Row {
+    ghost output = { λ row. Some (row_text row) };
+
+    fn fmt<W: fmt::Write>(&self, f: &mut fmt::Formatter<W>) -> fmt::Result {
+        write!(
+            f,
+            "{:>6} {:>7}  {}  {}  {}",
+            self.supply,
+            self.carried,
+            text(&self.marks),
+            text(&self.kept.old),
+            text(&self.kept.new)
+        )
+    }
 }
 
 // Prints the whole table of one board.
-pub(crate) fn survey<B: Peek>(rt: &HostRuntime, board: &mut B) -> io::Result<()> {
+pub(crate) fn survey<B: Peek>(rt: &impl Print, board: &mut B) -> io::Result<()> {
     println!(rt; "supply carried  loose     old kept  new kept")?;
-    let needed = update(board, None);
-    let mut torn = 0u64;
-    let mut points = 0u64;
-    for supply in 0..needed.saturating_add(2) {
-        points = points.saturating_add(1);
-        if line(rt, board, supply)? {
-            torn = torn.saturating_add(1);
-        }
+    let points = update(board, None).saturating_add(2);
+    let mut torn = 0;
+    // kept: each row is printed as it comes, so a chain that counts is no plainer.
+    for supply in 0..points {
+        let row = Row::of(board, supply);
+        println!(rt; "{row}")?;
+        torn += u64::from(row.kept.may_tear());
     }
     println!(rt; "The record could be found torn at {torn} of {points} points.")
 }

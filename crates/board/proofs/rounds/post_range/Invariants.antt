@@ -7,4 +7,4 @@ abbrev pub invariant-loop-line : goal.invariant-loop-line
 invariant-loop-line g l =
     let b = g.B.Board in
     ((b.meaning l.board).size ≡ (b.meaning l.initial.board).size)
-    × Ran b.width (take (l.line - l.first) (posts l.first (l.end - l.first))) (b.meaning l.initial.board) (b.meaning l.board)
+    × Ran b.width (take (l.line-counter - l.first) (posts l.first (l.end - l.first))) (b.meaning l.initial.board) (b.meaning l.board)

@@ -1,6 +1,5 @@
-use Rattle.std.proofs.Common.{◌/◌, length, arith}
+use Rattle.std.proofs.Common.{◌/◌, length, arith, rules}
 use Rattle.std.proofs.lemmas.List.{length-append}
-use Rattle.std.proofs.lemmas.Result.{err_from_is_err_and}
 use Rattle.model.specs.Rounds.{stores, posts, lines}
 use Rattle.model.proofs.Rounds.{length-stores, length-posts, lines_few}
 use Rattle.board.proofs.Progress.{written_short, settled_short, settled_whole}
@@ -8,9 +7,11 @@ use Rattle.board.proofs.rounds.write_fitting.Goals as goal
 
 pub returns-in_err-carried : goal.returns-in_err-carried
 returns-in_err-carried g c =
-    let p = err_from_is_err_and c.from_residual.result c.from_residual.ensures.1 in
-    rw (p.1, p.2)
-    (written_short g.B.Board.width c.args.at c.args.bytes.now _ c.requires.0 (omega arith) c.in_err-carried.field-0.0 _ _ c.settle-settled.result c.in_err-carried.ensures c.settle-settled.ensures)
+    written_short g.B.Board.width c.args.at c.args.bytes.now _ c.requires.0 (omega arith) _ _ _ _ c.settle-settled.result c.store_and_post-written.ensures c.settle-settled.ensures (search rules)
+
+pub returns-in_err-map_err : goal.returns-in_err-map_err
+returns-in_err-map_err g c =
+    settled_short g.B.Board.width c.args.at c.args.bytes.now _ c.requires.0 (omega arith) _ _ _ c.settle-settled.result _ c.in_ok-carried.ensures c.settle-settled.ensures (search rules)
 
 pub overflow_add-result : goal.overflow_add-result
 overflow_add-result g c =
@@ -18,12 +19,8 @@ overflow_add-result g c =
     let p = c.args.at in
     let bs = c.args.bytes.now in
     let n = lines L p (length bs) in
-    omega (arith, c.in_ok-carried.ensures.0, length-append (stores p bs) (posts (p / L) n), length-stores p bs, length-posts (p / L) n, lines_few L p (length bs) g.B.Board.bounded.0)
+    omega (arith, c.requires.2, c.in_ok-carried.ensures.0, length-append (stores p bs) (posts (p / L) n), length-stores p bs, length-posts (p / L) n, lines_few L p (length bs) g.met.B.Board.bounded.0)
 
-pub returns-in-Ok : goal.returns-in-Ok
-returns-in-Ok g c =
-    settled_whole g.B.Board.width c.args.at c.args.bytes.now _ c.requires.0 (omega arith) _ _ _ c.in_ok-carried.ensures c.in-Ok.ensures
-
-pub returns-in-Err : goal.returns-in-Err
-returns-in-Err g c =
-    settled_short g.B.Board.width c.args.at c.args.bytes.now _ c.requires.0 (omega arith) _ _ _ _ c.in_ok-carried.ensures c.in-Err.ensures
+pub returns : goal.returns
+returns g c =
+    settled_whole g.B.Board.width c.args.at c.args.bytes.now _ c.requires.0 (omega arith) _ _ _ c.settle-settled.result c.in_ok-carried.ensures c.settle-settled.ensures (search rules)

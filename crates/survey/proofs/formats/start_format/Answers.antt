@@ -1,11 +1,11 @@
-use Rattle.std.proofs.Common.{sym, subst, arith}
+use Rattle.std.proofs.Common.{◌≡◌, MatchResult, sym, subst, rules, arith}
+use Rattle.model.specs.Faults.{stack_detail}
 use Rattle.region.specs.Frames.{SizeAllowed}
-use Rattle.survey.proofs.Findings.{stopped_whole, stopped_short}
+use Rattle.survey.proofs.Findings.{stopped}
 use Rattle.survey.proofs.formats.start_format.Goals as goal
 
-pub returns-in-Ok : goal.returns-in-Ok
-returns-in-Ok g c fits = stopped_whole g.B.Board.width c.in-Ok.carried c.args.supply _ _ (c.prepare.ensures.prepared (omega (arith, fits.0))) c.in-Ok.ensures
-
-pub returns-in-Err : goal.returns-in-Err
-returns-in-Err g c fits =
-    stopped_short g.B.Board.width c.detail.result c.args.supply _ _ c.in-Err.fault (c.prepare.ensures.prepared (omega (arith, fits.0))) (subst SizeAllowed (sym c.prepare.ensures.size) fits) c.detail.ensures c.in-Err.ensures
+pub returns : goal.returns
+returns g c fits =
+    let k = c.unwrap_or_else.result in
+    let answer : MatchResult c.format.result (λ j. k ≡ j) (λ e. k ≡ stack_detail e) = search rules in
+    stopped _ _ _ _ _ c.format.result (c.prepare.ensures.prepared (omega (arith, fits.0))) (subst SizeAllowed (sym c.prepare.ensures.size) fits) c.format.ensures answer

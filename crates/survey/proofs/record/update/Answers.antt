@@ -1,10 +1,9 @@
-use Rattle.survey.proofs.Updates.{updated_whole, updated_short}
+use Rattle.std.proofs.Common.{◌≡◌, MatchResult, rules}
+use Rattle.survey.proofs.Updates.{updated}
 use Rattle.survey.proofs.record.update.Goals as goal
 
-pub returns-in-Ok : goal.returns-in-Ok
-returns-in-Ok g c long =
-    updated_whole g.B.Board.width c.in-Ok.carried c.args.supply _ _ (c.prepare.ensures.prepared long) c.in-Ok.ensures
-
-pub returns-in-Err : goal.returns-in-Err
-returns-in-Err g c long =
-    updated_short g.B.Board.width c.args.supply _ _ c.in-Err.stopped (c.prepare.ensures.prepared long) c.in-Err.ensures
+pub returns : goal.returns
+returns g c long =
+    let k = c.unwrap_or_else.result in
+    let answer : MatchResult c.write_round.result (λ j. k ≡ j) (λ t. k ≡ t.carried) = search rules in
+    updated _ _ _ _ _ c.write_round.result (c.prepare.ensures.prepared long) c.write_round.ensures answer
