@@ -24,7 +24,7 @@ pub enum Stores {
 }
 
 // One place: its present byte, the byte it was settled at, the stores since then, and whether its line was posted.
-// kept: the project gives a cell these four parts, so the byte and the posting are no payload of `Stores`.
+// kept: these four are the parts that the project gives a cell, so `settled` and `posted` are no payload of `Stores`.
 #[derive(Clone, Copy, PartialEq, Eq, Debug)]
 pub struct Cell {
     present: u8,
@@ -165,7 +165,8 @@ fn settle_all(cells: &mut [Cell])
     change_each(cells, |_, cell| Cell::settled_at(cell.present));
 }
 
-// kept: what it shares with the through board (size, guards, supply) is short, and the project asks each make to show the trait itself.
+// A board over a lent table of cells.
+// kept: it repeats the through board's guards over another table, since each make of the project shows the trait for its own meaning.
 #[derive(Drop)]
 pub struct LineBoard<'a> {
     cells: &'a mut [Cell],
@@ -222,7 +223,7 @@ impl Board for LineBoard<'_> {
         if place >= self.size() {
             return Err(BoardFault::Outside { given: place });
         }
-        self.supply = draw(self.supply)?;
+        draw(&mut self.supply)?;
         store_cell(self.cells, place, byte);
         Ok(())
     }
@@ -235,7 +236,7 @@ impl Board for LineBoard<'_> {
         if size == 0 || line > (size - 1) / WIDTH {
             return Err(BoardFault::Outside { given: line });
         }
-        self.supply = draw(self.supply)?;
+        draw(&mut self.supply)?;
         post_cells(self.cells, line);
         Ok(())
     }
@@ -245,7 +246,7 @@ impl Board for LineBoard<'_> {
         ensures leaves { Leaves result settled_table self.old.cells.now self.new.cells.now }
     {
         slip.spend();
-        self.supply = draw(self.supply)?;
+        draw(&mut self.supply)?;
         settle_cells(self.cells);
         Ok(())
     }

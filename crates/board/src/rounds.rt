@@ -14,7 +14,8 @@ pub struct Stopped {
 }
 
 // Stores the bytes from `at` on.
-// kept: board, place and bytes go one by one through this file: a struct of them needs a clause in each method that two of them stay.
+// kept: place and bytes go side by side through this file, as in std's `write_all_at`, and `OnBoard` with them: a struct of both would be
+// made for each call and taken apart in each function, and its size is known only beside the board.
 fn store_bytes<B: Board>(board: &mut B, at: usize, bytes: &[u8]) -> Result<u64, Stopped>
     requires { OnBoard at (length bytes.now) (B.meaning board.old).size }
     ensures { Carried B.width (stores at bytes.now) (B.meaning board.old) result (B.meaning board.new) }
@@ -108,6 +109,7 @@ pub fn write_round<B: Board>(
         slip.spend();
         return Ok(0);
     }
+    // kept: no `?`, since the slip has to be spent first.
     if let Err(fault) = check_places(board, at, bytes.len()) {
         slip.spend();
         return Err(Stopped { carried: 0, fault });

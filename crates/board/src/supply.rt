@@ -3,14 +3,17 @@ ghost use Rattle.board.specs.Supply.{Drawn};
 
 use model::faults::BoardFault;
 
-// What one writing call leaves of a supply.
-// kept: three cases and three answers; a chain of `map`, `checked_sub` and `transpose` is no plainer.
-pub(crate) fn draw(supply: Option<u64>) -> Result<Option<u64>, BoardFault>
-    ensures { Drawn supply result }
+// Draws one writing call on a supply; where none is left it stays.
+// kept: the project takes a supply apart where it is used, and the three cases have three answers.
+pub(crate) fn draw(supply: &mut Option<u64>) -> Result<(), BoardFault>
+    ensures { Drawn supply.old result supply.new }
 {
-    match supply {
-        None => Ok(None),
+    match *supply {
+        None => Ok(()),
         Some(0) => Err(BoardFault::NoPower { carried: 0 }),
-        Some(left) => Ok(Some(left - 1)),
+        Some(left) => {
+            *supply = Some(left - 1);
+            Ok(())
+        }
     }
 }

@@ -13,6 +13,7 @@ use model::faults::BoardFault;
 // The places in a line.
 const WIDTH: usize = 1;
 
+// A board over lent bytes.
 #[derive(Drop)]
 pub struct ThroughBoard<'a> {
     bytes: &'a mut [u8],
@@ -47,10 +48,11 @@ impl Board for ThroughBoard<'_> {
     }
 
     fn read(&self, place: usize) -> Result<u8, BoardFault> {
-        self.bytes
+        let byte = self
+            .bytes
             .get(place)
-            .copied()
-            .ok_or(BoardFault::Outside { given: place })
+            .ok_or(BoardFault::Outside { given: place })?;
+        Ok(*byte)
     }
 
     fn store(&mut self, place: usize, byte: u8) -> Result<(), BoardFault>
@@ -60,7 +62,7 @@ impl Board for ThroughBoard<'_> {
         if place >= self.size() {
             return Err(BoardFault::Outside { given: place });
         }
-        self.supply = draw(self.supply)?;
+        draw(&mut self.supply)?;
         self.bytes[place] = byte;
         Ok(())
     }
@@ -72,7 +74,7 @@ impl Board for ThroughBoard<'_> {
         if line >= self.size() {
             return Err(BoardFault::Outside { given: line });
         }
-        self.supply = draw(self.supply)?;
+        draw(&mut self.supply)?;
         Ok(())
     }
 
@@ -81,7 +83,7 @@ impl Board for ThroughBoard<'_> {
         ensures leaves { Leaves result same_bytes self.old.bytes.now self.new.bytes.now }
     {
         slip.spend();
-        self.supply = draw(self.supply)?;
+        draw(&mut self.supply)?;
         Ok(())
     }
 

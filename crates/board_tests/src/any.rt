@@ -7,35 +7,32 @@ use std::process::Abort;
 // The largest place and line.
 pub(crate) const MOST: u64 = u64::MAX;
 
-// What was read, 0 for a writing call, or a fault's number and detail.
-pub(crate) type Told = Result<u8, (u8, u64)>;
+// An answer, with a fault told by its number and its detail.
+// kept: what a fault tells is what is tested here, and not which case of its enum it is.
+pub(crate) type Told<T> = Result<T, (u8, u64)>;
 
-fn told(fault: BoardFault) -> (u8, u64) {
+fn told<F: Fault>(fault: F) -> (u8, u64) {
     (fault.number(), fault.detail())
 }
 
-fn wrote(answer: Result<(), BoardFault>) -> Told {
-    answer.map(|()| 0).map_err(told)
-}
-
-pub(crate) fn read<B: Board>(board: &B, place: usize) -> Told {
+pub(crate) fn read<B: Board>(board: &B, place: usize) -> Told<u8> {
     board.read(place).map_err(told)
 }
 
-pub(crate) fn store<B: Board>(board: &mut B, place: usize, byte: u8) -> Told {
-    wrote(board.store(place, byte))
+pub(crate) fn store<B: Board>(board: &mut B, place: usize, byte: u8) -> Told<()> {
+    board.store(place, byte).map_err(told)
 }
 
-pub(crate) fn settle<B: Board>(board: &mut B) -> Told {
+pub(crate) fn settle<B: Board>(board: &mut B) -> Told<()> {
     let slip = Slip::take();
-    wrote(board.settle(slip))
+    board.settle(slip).map_err(told)
 }
 
 // What a post answers, and then a settle.
-pub(crate) fn post_and_settle<B: Board>(board: &mut B, line: usize) -> [Told; 2] {
+pub(crate) fn post_and_settle<B: Board>(board: &mut B, line: usize) -> [Told<()>; 2] {
     let slip = Slip::take();
     let posted = board.post(line, &slip);
-    [wrote(posted), wrote(board.settle(slip))]
+    [posted.map_err(told), board.settle(slip).map_err(told)]
 }
 
 // A post, a store behind it, and then the settle.
@@ -44,11 +41,15 @@ pub(crate) fn post_store_settle<B: Board>(
     line: usize,
     place: usize,
     byte: u8,
-) -> [Told; 3] {
+) -> [Told<()>; 3] {
     let slip = Slip::take();
     let posted = board.post(line, &slip);
     let stored = board.store(place, byte);
-    [wrote(posted), wrote(stored), wrote(board.settle(slip))]
+    [
+        posted.map_err(told),
+        stored.map_err(told),
+        board.settle(slip).map_err(told),
+    ]
 }
 
 // A round: its calls, or the calls carried out and the fault's number and detail.
@@ -68,7 +69,7 @@ pub(crate) fn ends<B: Board>(rt: &impl Abort, board: &mut B, size: usize, lines:
             store(board, size, 7),
             store(board, usize::MAX, 7),
         ],
-        [Ok(0), Err((2, n)), Err((2, MOST))]
+        [Ok(()), Err((2, n)), Err((2, MOST))]
     );
     assert_eq!(rt;
         [
@@ -80,22 +81,23 @@ pub(crate) fn ends<B: Board>(rt: &impl Abort, board: &mut B, size: usize, lines:
     );
     assert_eq!(rt;
         post_and_settle(board, lines.saturating_sub(1)),
-        [Ok(0), Ok(0)]
+        [Ok(()), Ok(())]
     );
     assert_eq!(rt;
         post_and_settle(board, lines),
-        [Err((2, lines as u64)), Ok(0)]
+        [Err((2, lines as u64)), Ok(())]
     );
-    assert_eq!(rt; post_and_settle(board, usize::MAX), [Err((2, MOST)), Ok(0)]);
+    assert_eq!(rt;
+        post_and_settle(board, usize::MAX),
+        [Err((2, MOST)), Ok(())]
+    );
 }
 
 // A board of no places refuses each place and line.
 pub(crate) fn no_places<B: Board>(rt: &impl Abort, board: &mut B) {
-    assert_eq!(rt;
-        [read(board, 0), store(board, 0, 1), settle(board)],
-        [Err((2, 0)), Err((2, 0)), Ok(0)]
-    );
-    assert_eq!(rt; post_and_settle(board, 0), [Err((2, 0)), Ok(0)]);
+    assert_eq!(rt; read(board, 0), Err((2, 0)));
+    assert_eq!(rt; [store(board, 0, 1), settle(board)], [Err((2, 0)), Ok(())]);
+    assert_eq!(rt; post_and_settle(board, 0), [Err((2, 0)), Ok(())]);
 }
 
 // A supply of 0 refuses each writing call, after the check of its place; one of 1 carries one.
@@ -103,14 +105,15 @@ pub(crate) fn supplies<B: Board>(rt: &impl Abort, board: &mut B, size: usize) {
     let n = size as u64;
     board.cut(&[], Some(0));
     assert_eq!(rt;
-        [store(board, 0, 1), store(board, size, 1), read(board, 0)],
-        [Err((1, 0)), Err((2, n)), Ok(0)]
+        [store(board, 0, 1), store(board, size, 1)],
+        [Err((1, 0)), Err((2, n))]
     );
+    assert_eq!(rt; read(board, 0), Ok(0));
     assert_eq!(rt; post_and_settle(board, 0), [Err((1, 0)), Err((1, 0))]);
     board.cut(&[], Some(1));
-    assert_eq!(rt; [store(board, 0, 1), settle(board)], [Ok(0), Err((1, 0))]);
+    assert_eq!(rt; [store(board, 0, 1), settle(board)], [Ok(()), Err((1, 0))]);
     board.cut(&[], None);
-    assert_eq!(rt; [store(board, 0, 2), settle(board)], [Ok(0), Ok(0)]);
+    assert_eq!(rt; [store(board, 0, 2), settle(board)], [Ok(()), Ok(())]);
 }
 
 // A round up to the last place, past it, of no bytes, and with too little power.

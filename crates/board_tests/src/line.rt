@@ -32,7 +32,7 @@ fn line_rounds(rt: HostRuntime) {
 }
 
 // What is found of place 1 of three, settled at 5, after these stores there and a cut with this list.
-fn found(stores: &[u8], wanted: &[u8]) -> Told {
+fn found(stores: &[u8], wanted: &[u8]) -> Told<u8> {
     let mut cells = [Cell::settled_at(5); 3];
     let mut board = LineBoard::over(&mut cells);
     for byte in stores {
@@ -83,7 +83,7 @@ fn line_posting(rt: HostRuntime) {
             store(&mut board, 64, 6),
             settle(&mut board),
         ],
-        [Ok(0), Ok(0), Ok(0)]
+        [Ok(()), Ok(()), Ok(())]
     );
     assert_eq!(rt;
         [
@@ -96,13 +96,13 @@ fn line_posting(rt: HostRuntime) {
     );
     assert_eq!(rt;
         post_store_settle(&mut board, 0, 62, 6),
-        [Ok(0), Ok(0), Ok(0)]
+        [Ok(()), Ok(()), Ok(())]
     );
     assert_eq!(rt;
         [board.is_loose(62), board.is_loose(63), board.is_loose(64)],
         [true, true, true]
     );
-    assert_eq!(rt; post_and_settle(&mut board, 0), [Ok(0), Ok(0)]);
+    assert_eq!(rt; post_and_settle(&mut board, 0), [Ok(()), Ok(())]);
     assert_eq!(rt;
         [board.is_loose(62), board.is_loose(63), board.is_loose(64)],
         [false, false, true]

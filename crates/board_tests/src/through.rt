@@ -35,8 +35,6 @@ fn through_keeps(rt: HostRuntime) {
     let mut board = ThroughBoard::over(&mut bytes);
     let stored = store(&mut board, 1, 6);
     board.cut(&[9, 9, 9], None);
-    assert_eq!(rt;
-        [stored, read(&board, 0), read(&board, 1)],
-        [Ok(0), Ok(5), Ok(6)]
-    );
+    assert_eq!(rt; stored, Ok(()));
+    assert_eq!(rt; [read(&board, 0), read(&board, 1)], [Ok(5), Ok(6)]);
 }

@@ -8,9 +8,9 @@ abbrev pub marker_of : ℕ → Option Marker
 marker_of b = cond (nat_lt b marker_limit) (Some (record { live = live_pad b; last = is_last b })) None
 
 -- b is the marker's byte
-abbrev pub Spells : Marker → ℕ → Type 0
-Spells x b = b ≡ marker_byte x.live x.last
+abbrev pub IsByte : Marker → ℕ → Type 0
+IsByte x b = b ≡ marker_byte x.live x.last
 
 -- the marker with this byte, or that there is none
-abbrev pub Decodes : ℕ → Result Marker NoMarker → Type 0
-Decodes b r = MatchResult r (λ x. marker_of b ≡ Some x) (λ _. marker_of b ≡ None)
+abbrev pub IsMarker : ℕ → Result Marker NoMarker → Type 0
+IsMarker b r = MatchResult r (λ x. marker_of b ≡ Some x) (λ _. marker_of b ≡ None)

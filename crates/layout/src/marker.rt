@@ -61,9 +61,9 @@ impl Marker {
 
 // Its byte: bit 0 is set where the stack ends; bit 1 is the number of the live pad.
 impl From<Marker> for u8 {
-    ghost use Rattle.layout.specs.Markers.{Spells};
+    ghost use Rattle.layout.specs.Markers.{IsByte};
 
-    ghost from_gives = { Spells };
+    ghost from_gives = { IsByte };
 
     fn from(marker: Marker) -> u8 {
         match (marker.live, marker.last) {
@@ -80,11 +80,11 @@ impl From<Marker> for u8 {
 pub struct NoMarker;
 
 impl TryFrom<u8> for Marker {
-    ghost use Rattle.layout.specs.Markers.{Decodes};
+    ghost use Rattle.layout.specs.Markers.{IsMarker};
 
     type Error = NoMarker;
 
-    ghost try_from_gives = { Decodes };
+    ghost try_from_gives = { IsMarker };
 
     fn try_from(byte: u8) -> Result<Marker, NoMarker> {
         let (live, last) = match byte {

@@ -11,7 +11,7 @@ pub enum Layer {
     Runner,
 }
 
-// A refusal, which every layer above passes up whole: its number, the layer whose refusal it is, and its detail.
+// A refusal: its number, the layer whose refusal it is, and its detail. The layers above pass it up whole, but for the count in a refusal 1.
 pub trait Fault: Copy {
     ghost number: { Self → ℕ };
 
@@ -81,7 +81,7 @@ pub enum StackFault {
     Damaged { first: usize },
 }
 
-// The board's refusal, passed up whole.
+// The board's refusal, as the stack's.
 impl From<BoardFault> for StackFault {
     ghost from_gives = { λ refused result. result ≡ Board refused };
 

@@ -7,6 +7,7 @@ ghost use Rattle.model.specs.Laws.{BoardLaws};
 pub mod faults;
 
 // The laws that every board keeps, whatever its make.
+// kept: it is like the other functions without code, but a fact can be no type parameter.
 pub fn board_laws()
     ensures { BoardLaws }
 {}

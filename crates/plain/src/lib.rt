@@ -24,7 +24,7 @@ pub struct Answer {
 // One activity.
 #[derive(Drop)]
 pub struct PlainFrame {
-    // kept: a number, since each programme has kinds of its own.
+    // kept: a number, since each programme has kinds of its own; no other parameter here is a `u16`.
     pub kind: u16,
     pub args: Vec<u8>,
     pub progress: Progress,
@@ -94,7 +94,7 @@ impl PlainStack {
     }
 
     // Removes the top, and hands the answer to the new one. At the bottom it answers false, and the stack stays.
-    // kept: a `bool`, since a give cannot fail here; as of std's `HashSet::remove`, false says that nothing was there to remove.
+    // kept: a `bool`, since a give cannot fail here; as with std's `HashSet::remove`, false says that nothing was removed.
     #[tactic(auto, using(crate::proofs::Stacks::map_set_top, crate::proofs::Stacks::map_shorter))]
     pub fn give(&mut self, answer: Answer) -> bool
         ensures frames { self.new ≡ given answer self.old }

@@ -82,8 +82,8 @@ abbrev pub kind_of : ℕ → Option Kind
 kind_of n = cond (n == bottom_kind) (Some Bottom) (cond (n == quiz_kind) (Some Quiz) (cond (n == question_kind) (Some Question) None))
 
 -- r is the kind with number n; where there is none, 12
-abbrev pub Decodes : ℕ → Result Kind ProgrammeFault → Type 0
-Decodes n r = MatchResult r (λ k. kind_of n ≡ Some k) (λ e. (kind_of n ≡ None) × Refusal 12 e)
+abbrev pub IsKind : ℕ → Result Kind ProgrammeFault → Type 0
+IsKind n r = MatchResult r (λ k. kind_of n ≡ Some k) (λ e. (kind_of n ≡ None) × Refusal 12 e)
 
 -- the verdict on a frame of this kind
 abbrev pub by_kind : Option Kind → Table

@@ -14,7 +14,7 @@ pub trait ArgumentRecord: Sized {
     ghost parsed: { List ℕ → Option Self };
 
     // Writes it to the front of a lent slice, and answers how many bytes it has. A slice without room for them is refused with 14, and stays.
-    // kept: it answers a length beside the lent slice, as std's `Write::write` does.
+    // kept: the project lends the slice, so a length is all there is to answer.
     fn write(&self, out: &mut [u8]) -> Result<usize, ProgrammeFault>
         ensures { Written (image self.now) (length (image self.now)) out.old result out.new };
 

@@ -12,7 +12,8 @@ pub enum Choice {
     // It ends, and hands this answer to the activity that opened it.
     Give(Answer),
     // It opens an activity of this kind; so many argument bytes stand at the front of the lent buffer.
-    // kept: a choice that held these bytes would borrow the buffer, and no plain clause could say what the buffer holds.
+    // kept: the project lends a programme the buffer for these bytes, so a choice holds their number, and no bytes of its own; and a kind is
+    // a number, since each programme has kinds of its own.
     Call { kind: u16, count: usize },
 }
 

@@ -21,7 +21,7 @@ pub const BOTTOM: u16 = 0;
 // The top frame, as it is lent to a programme.
 #[derive(Clone, Copy, PartialEq, Eq, Debug)]
 pub struct Top<'a> {
-    // kept: a number, since each programme has kinds of its own.
+    // kept: a number, since each programme has kinds of its own; no other parameter here is a `u16`.
     pub kind: u16,
     pub args: &'a [u8],
     pub progress: Progress,
@@ -43,7 +43,8 @@ pub trait Programme {
 }
 
 // Whether a lent buffer has room for the arguments of any call; a shorter one is refused with 14.
-// kept: tried as `first_chunk_mut`, whose array of 255 needs no `requires` in Trail; the four returns of `choose` then stayed open.
+// kept: tried with `first_chunk_mut`, so that Trail's functions are lent an array of 255 and require nothing; of `choose` four goals then
+// stayed open.
 pub(crate) fn room(out: &[u8]) -> Result<(), ProgrammeFault>
     ensures { MatchResult result (λ _. max_args ≤ length out.now) (λ e. (length out.now < max_args) × Refusal 14 e) }
 {

@@ -1,8 +1,9 @@
 // Trail: a quiz of three questions, as often as a guest starts it.
+// kept: an answer and a touch are `Option`s that each function takes apart by `match`, as the project asks; each arm is a choice of its own.
 ghost use Rattle.std.specs.Prelude.{◌≡◌, ◌≤◌, length};
 ghost use Rattle.layout.specs.Layout.{max_args};
 ghost use Rattle.programme.specs.Verdicts.{Answered, frame};
-ghost use Rattle.programme.specs.Trail.{quiz_image, quiz_parsed, question_image, question_parsed, quiz_kind, question_kind, Decodes, asked, points, scored, at_bottom, at_quiz, at_question, trail};
+ghost use Rattle.programme.specs.Trail.{quiz_image, quiz_parsed, question_image, question_parsed, quiz_kind, question_kind, IsKind, asked, points, scored, at_bottom, at_quiz, at_question, trail};
 ghost use Rattle.std.proofs.Common.{rules};
 
 use crate::activity::{Activity, ArgumentRecord, call, put};
@@ -33,7 +34,7 @@ enum Kind {
 impl TryFrom<u16> for Kind {
     type Error = ProgrammeFault;
 
-    ghost try_from_gives = { Decodes };
+    ghost try_from_gives = { IsKind };
 
     fn try_from(number: u16) -> Result<Kind, ProgrammeFault> {
         match number {
@@ -150,7 +151,7 @@ fn choose_at_bottom(
 }
 
 // What a quiz's progress says: how many questions it asked, and how many points they gave.
-// kept: the project asks for a pair that its caller takes apart, and no struct.
+// kept: a pair that its caller takes apart, since the project asks for one.
 fn split(progress: Progress) -> (u8, u8)
     ensures { result ≡ (asked progress, points progress) }
 {
@@ -190,7 +191,6 @@ fn choose_at_quiz(top: &Top<'_>, out: &mut [u8]) -> Result<Choice, ProgrammeFaul
 }
 
 // A question gives 1 for the right touch, 0 for another.
-// kept: the touch is taken apart, and both arms are choices of their own; `map_or` with a closure is no plainer.
 fn choose_at_question(
     top: &Top<'_>,
     touch: Option<u8>,

@@ -11,6 +11,7 @@ pub mod stretch;
 pub mod write;
 
 // The laws of the format.
+// kept: it is like the other functions without code, but a fact can be no type parameter.
 pub fn region_laws()
     ensures { RegionLaws }
 {}

@@ -92,18 +92,10 @@ pub struct Spot {
 #[derive(Clone, Copy)]
 pub struct FrameHead {
     pub extent: Extent,
-    // kept: a number, since each programme has kinds of its own.
+    // kept: a number, since each programme has kinds of its own; no other parameter here is a `u16`.
     pub kind: u16,
     pub marker: Marker,
     pub pad: PadContent,
-}
-
-// Whether a frame with so many argument bytes ends on a board of that size.
-fn fits(size: usize, first: usize, count: usize) -> bool
-    requires { count < 65536 }
-    ensures { result ≡ nat_le (first + frame_size count) size }
-{
-    first <= size && BARE_FRAME + count <= size - first
 }
 
 // Whether a frame above so many others may have this kind and so many argument bytes.
@@ -122,18 +114,13 @@ fn head_at<B: Board>(board: &B, spot: Spot) -> Option<FrameHead>
     ensures { HeadRead (bytes (B.meaning board.now)) spot.below spot.first result }
 {
     let Spot { first, below } = spot;
-    let size = board.size();
     if below >= MAX_FRAMES {
         return None;
     }
-    if !fits(size, first, 0) {
-        return None;
-    }
+    check_places(board, first, BARE_FRAME).ok()?;
     let count = usize::from(u16::from_be_bytes(read_array(board, first)));
     let kind = u16::from_be_bytes(read_array(board, first + COUNT_SIZE));
-    if !fits(size, first, count) {
-        return None;
-    }
+    check_places(board, first, BARE_FRAME + count).ok()?;
     if !keeps_kind_rule(below, kind, count) {
         return None;
     }

@@ -43,7 +43,8 @@ impl Stretch {
 
     // The bytes.
     pub fn as_slice(&self) -> &[u8]
-        ensures { result.now ≡ self.now }
+        ensures bytes { result.now ≡ self.now }
+        ensures fits { length result.now ≤ max_frame }
     {
         self.bytes.as_slice()
     }

@@ -17,10 +17,9 @@ use plain::Progress;
 pub fn pad_bytes(content: PadContent) -> Stretch
     ensures { result ≡ pad_bytes content.answer content.progress }
 {
-    let (tag, answer) = match content.answer {
-        Some(answer) => (WITH_ANSWER, answer.value),
-        None => (NO_ANSWER, 0),
-    };
+    let (tag, answer) = content
+        .answer
+        .map_or((NO_ANSWER, 0), |answer| (WITH_ANSWER, answer.value));
     let mut pad = Stretch::new();
     pad.append(&[tag]);
     pad.append(&answer.to_be_bytes());

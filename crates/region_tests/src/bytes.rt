@@ -28,7 +28,7 @@ fn pads(rt: HostRuntime) {
     );
 }
 
-fn frame_length(kind: u16, args: &[u8]) -> Told {
+fn frame_length(kind: u16, args: &[u8]) -> Told<u64> {
     told(frame_bytes(kind, args).map(|frame| frame.as_slice().len() as u64))
 }
 
@@ -44,19 +44,8 @@ fn frames(rt: HostRuntime) {
     );
     let frame = frame_bytes(513, &[7]).expect(&rt, "a frame with one argument byte");
     let bytes = frame.as_slice();
-    assert_eq!(rt; bytes.first().copied(), Some(0));
-    assert_eq!(rt;
-        [bytes.get(1).copied(), bytes.get(2).copied()],
-        [Some(1), Some(2)]
-    );
-    assert_eq!(rt;
-        [
-            bytes.get(3).copied(),
-            bytes.get(4).copied(),
-            bytes.get(39).copied(),
-        ],
-        [Some(1), Some(7), Some(1)]
-    );
+    assert_eq!(rt; bytes.get(..5), Some([0, 1, 2, 1, 7].as_slice()));
+    assert_eq!(rt; bytes.get(39).copied(), Some(1));
 }
 
 // The bottom's marker on a fresh stack, after a call, a give, a call and a give.

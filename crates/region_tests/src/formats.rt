@@ -5,11 +5,11 @@ use board::line::{Cell, LineBoard};
 use board::through::ThroughBoard;
 use region::format::format;
 
-fn on_through(bytes: &mut [u8]) -> Told {
+fn on_through(bytes: &mut [u8]) -> Told<u64> {
     told(format(&mut ThroughBoard::over(bytes)))
 }
 
-fn on_line(supply: u64) -> Told {
+fn on_line(supply: u64) -> Told<u64> {
     let mut cells = [Cell::settled_at(0); 44];
     let mut board = LineBoard::over(&mut cells);
     board.cut(&[], Some(supply));

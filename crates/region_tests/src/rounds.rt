@@ -1,9 +1,11 @@
 // The two rounds of each change, put together by hand on both makes of board, against the plain stack.
-use crate::told::told;
+use crate::told::{BOTTOM, UPPER, told};
 use board::line::{Cell, LineBoard};
 use board::rounds::write_round;
 use board::through::ThroughBoard;
 use board::{Board, Slip};
+use layout::marker::Marker;
+use model::faults::StackFault;
 use plain::{Answer, PlainFrame, PlainStack, Progress};
 use region::format::format;
 use region::read::{FrameHead, PadContent, Spot, read_bytes, read_frame};
@@ -11,71 +13,55 @@ use region::write::{frame_bytes, pad_bytes};
 use std::process::Abort;
 use std::test::Fail;
 
-fn write<B: Board>(board: &mut B, at: usize, bytes: &[u8]) {
+// One round; the fault is told as the stack's.
+fn write<B: Board>(board: &mut B, at: usize, bytes: &[u8]) -> Result<(), StackFault> {
     let slip = Slip::take();
-    let _ = write_round(board, slip, at, bytes);
+    write_round(board, slip, at, bytes).map_err(|stopped| stopped.fault)?;
+    Ok(())
 }
 
-// The bottom, and the frame above it.
-const BOTTOM: Spot = Spot { first: 5, below: 0 };
-
-const UPPER: Spot = Spot {
-    first: 44,
-    below: 1,
-};
-
 // A call on top of the frame at a spot.
-fn call<B: Board>(board: &mut B, spot: Spot, kind: u16, args: &[u8]) {
-    if let Ok(top) = read_frame(board, spot) {
-        if let Ok(frame) = frame_bytes(kind, args) {
-            write(board, top.extent.end(), frame.as_slice());
-            write(
-                board,
-                top.extent.marker_place(),
-                &[u8::from(top.marker.called())],
-            );
-        }
-    }
+fn call<B: Board>(board: &mut B, spot: Spot, kind: u16, args: &[u8]) -> Result<(), StackFault> {
+    let top = read_frame(board, spot)?;
+    let frame = frame_bytes(kind, args)?;
+    write(board, top.extent.end(), frame.as_slice())?;
+    write(
+        board,
+        top.extent.marker_place(),
+        &[u8::from(top.marker.called())],
+    )
+}
+
+// The two rounds that make the idle pad of a frame its live one.
+fn turn<B: Board>(
+    board: &mut B,
+    head: &FrameHead,
+    pad: PadContent,
+    marker: Marker,
+) -> Result<(), StackFault> {
+    let idle = head.extent.pad_place(head.marker.live.other());
+    write(board, idle, pad_bytes(pad).as_slice())?;
+    write(board, head.extent.marker_place(), &[u8::from(marker)])
 }
 
 // A note in the frame at a spot.
-fn note<B: Board>(board: &mut B, spot: Spot, progress: Progress) {
-    if let Ok(top) = read_frame(board, spot) {
-        let pad = pad_bytes(PadContent {
-            answer: None,
-            progress,
-        });
-        write(
-            board,
-            top.extent.pad_place(top.marker.live.other()),
-            pad.as_slice(),
-        );
-        write(
-            board,
-            top.extent.marker_place(),
-            &[u8::from(top.marker.noted())],
-        );
-    }
+fn note<B: Board>(board: &mut B, spot: Spot, progress: Progress) -> Result<(), StackFault> {
+    let top = read_frame(board, spot)?;
+    let pad = PadContent {
+        answer: None,
+        progress,
+    };
+    turn(board, &top, pad, top.marker.noted())
 }
 
 // A give to the frame at a spot.
-fn give<B: Board>(board: &mut B, spot: Spot, answer: Answer) {
-    if let Ok(under) = read_frame(board, spot) {
-        let pad = pad_bytes(PadContent {
-            answer: Some(answer),
-            ..under.pad
-        });
-        write(
-            board,
-            under.extent.pad_place(under.marker.live.other()),
-            pad.as_slice(),
-        );
-        write(
-            board,
-            under.extent.marker_place(),
-            &[u8::from(under.marker.given())],
-        );
-    }
+fn give<B: Board>(board: &mut B, spot: Spot, answer: Answer) -> Result<(), StackFault> {
+    let under = read_frame(board, spot)?;
+    let pad = PadContent {
+        answer: Some(answer),
+        ..under.pad
+    };
+    turn(board, &under, pad, under.marker.given())
 }
 
 // What frames of both kinds tell.
@@ -136,21 +122,21 @@ fn changes<B: Board>(rt: &(impl Abort + AllocGlobal), board: &mut B) -> Result<(
     assert!(rt; format(board).is_ok());
     same(rt, board, &[5], &plain);
     plain.call(1, &args)?;
-    call(board, BOTTOM, 1, &args);
+    assert!(rt; call(board, BOTTOM, 1, &args).is_ok());
     same(rt, board, &[5, 44], &plain);
     plain.note(Progress { value: 5 });
-    note(board, UPPER, Progress { value: 5 });
+    assert!(rt; note(board, UPPER, Progress { value: 5 }).is_ok());
     plain.call(2, &[])?;
-    call(board, UPPER, 2, &[]);
+    assert!(rt; call(board, UPPER, 2, &[]).is_ok());
     same(rt, board, &[5, 44, 86], &plain);
     assert!(rt; plain.give(Answer { value: 6 }));
-    give(board, UPPER, Answer { value: 6 });
+    assert!(rt; give(board, UPPER, Answer { value: 6 }).is_ok());
     same(rt, board, &[5, 44], &plain);
     let mut found = [0; 3];
     assert!(rt; read_bytes(board, 48, &mut found).is_ok());
     assert_eq!(rt; found, args);
     assert!(rt; plain.give(Answer { value: 7 }));
-    give(board, BOTTOM, Answer { value: 7 });
+    assert!(rt; give(board, BOTTOM, Answer { value: 7 }).is_ok());
     same(rt, board, &[5], &plain);
     assert!(rt; !plain.give(Answer { value: 8 }));
     same(rt, board, &[5], &plain);
@@ -176,7 +162,7 @@ fn reads_past_the_end(rt: HostRuntime) {
     let board = ThroughBoard::over(&mut bytes);
     let mut found = [9; 2];
     let answer = read_bytes(&board, 2, &mut found);
-    assert_eq!(rt; told(answer.map(|()| 0)), Err((2, 3)));
+    assert_eq!(rt; told(answer), Err((2, 3)));
     assert_eq!(rt; found, [9, 9]);
     assert!(rt; read_bytes(&board, 1, &mut found).is_ok());
     assert_eq!(rt; found, [2, 3]);

@@ -63,7 +63,7 @@ finding_column f = padded (format_spec 32 1 0 9 (2 ^ 64 - 1)) (finding_text f)
 abbrev pub run_text : Run → List ℕ
 run_text r = right 6 r.first ++ (codes " to " ++ (left 6 r.last ++ (codes " " ++ (finding_column r.kept.old ++ (codes "  " ++ finding_text r.kept.new)))))
 
--- what was found with the supply s after a cut that keeps the old bytes, and then, on board o, after one that keeps the new ones
+-- what was found with the supply s after one power cut and, on board o, after another; what each cut wanted is the board's affair
 pub record KeptShown (L s : ℕ) (k : Kept Finding) (o : Meaning) : Type 0 where
   pub old : (p : Meaning) × FormatShown L (Some s) k.old p
   pub new : FormatShown L (Some s) k.new o

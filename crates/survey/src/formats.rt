@@ -30,15 +30,18 @@ pub enum Finding {
     Empty,
 }
 
-impl Finding {
-    // Which of the three these bytes are: neither blank nor as before is taken for empty, and `found` is proved to be right in that.
-    fn of(found: &[u8; LEAST_SIZE]) -> Finding
-        ensures { Classed result found.now }
-    {
-        match *found {
-            [0, ..] => Finding::Blank,
-            BEFORE => Finding::AsBefore,
-            _ => Finding::Empty,
+// Which of the three these bytes are. What is neither blank nor as before is taken for empty; that nothing else is found is proved of
+// `found`.
+impl From<[u8; LEAST_SIZE]> for Finding {
+    ghost from_gives = { λ found result. Classed result found };
+
+    fn from(found: [u8; LEAST_SIZE]) -> Finding {
+        if found[0] == 0 {
+            Finding::Blank
+        } else if found == BEFORE {
+            Finding::AsBefore
+        } else {
+            Finding::Empty
         }
     }
 }
@@ -65,7 +68,8 @@ enum Wish {
 }
 
 // Formats the region, and answers how many writing calls were carried out.
-// kept: the size stands in each clause here too, as in `record::update`.
+// kept: the size stands in the clauses here and below: a smaller board is no error, and a struct over those of a region's size would have
+// to refuse it.
 fn start_format<B: Board>(board: &mut B, supply: Option<u64>) -> u64
     ensures { SizeAllowed (B.meaning board.old).size → StoppedFormat B.width supply result (B.meaning board.new) }
 {
@@ -73,8 +77,7 @@ fn start_format<B: Board>(board: &mut B, supply: Option<u64>) -> u64
     format(board).unwrap_or_else(Fault::detail)
 }
 
-// Cuts the power. A board that follows the wanted bytes keeps those of the wish: the new ones are the present ones, and no byte is wanted
-// for the old ones.
+// Cuts the power. Where the old bytes are to be kept no byte is wanted; for the new ones the present bytes are.
 fn cut<B: Board>(board: &mut B, wish: Wish)
     ensures { Cut None (B.meaning board.old) (B.meaning board.new) }
 {
@@ -90,7 +93,7 @@ fn found<B: Board>(board: &mut B, supply: u64, wish: Wish) -> Finding
 {
     let _ = start_format(board, Some(supply));
     cut(board, wish);
-    Finding::of(&present_bytes(board, 0))
+    Finding::from(present_bytes::<LEAST_SIZE, B>(board, 0))
 }
 
 // The supplies from `first` to `last`, which have equal findings.

@@ -1,4 +1,4 @@
-// What is found after two power cuts of one kind.
+// Findings in pairs.
 
 // What is found after a cut that keeps the old bytes, and after one that keeps the new ones.
 #[derive(Clone, Copy, PartialEq, Eq)]

@@ -30,7 +30,8 @@ pub(crate) fn prepare<B: Board>(board: &mut B, supply: Option<u64>, at: usize, b
 }
 
 // Updates the record, and answers how many writing calls were carried out.
-// kept: the size stands in each clause, since a shorter board is no error here: a struct over long boards would have to refuse one.
+// kept: the size stands in the clauses here and in the table, since a shorter board is no error: a struct over long boards would have to
+// refuse one.
 pub(crate) fn update<B: Board>(board: &mut B, supply: Option<u64>) -> u64
     ensures { record_end ≤ (B.meaning board.old).size → Updated B.width supply result (B.meaning board.new) }
 {
@@ -40,6 +41,7 @@ pub(crate) fn update<B: Board>(board: &mut B, supply: Option<u64>) -> u64
 }
 
 // The N present bytes from `at` on; zeros where they would pass the board's end.
+// kept: no `Option`, since a shorter board is no error here.
 pub(crate) fn present_bytes<const N: usize, B: Board>(board: &B, at: usize) -> [u8; N]
     ensures within { at + N ≤ (B.meaning board.now).size → result ≡ part (bytes (B.meaning board.now)) at N }
     ensures outside { (B.meaning board.now).size < at + N → result ≡ replicate N 0 }

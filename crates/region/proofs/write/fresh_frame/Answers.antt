@@ -11,6 +11,6 @@ returns c =
     let kind = spelled kind_size c.args.kind in
     let head : c.append-2.new.self ≡ count ++ kind = search rules in
     grown c.append-6.ensures
-    (grown c.append-5.ensures (grown c.append-4.ensures (grown c.append-3.ensures head refl) (c.as_slice.ensures ∙ c.pad_bytes-pad.ensures)) (c.as_slice-2.ensures ∙ c.pad_bytes-pad.ensures))
+    (grown c.append-5.ensures (grown c.append-4.ensures (grown c.append-3.ensures head refl) (c.as_slice.ensures.bytes ∙ c.pad_bytes-pad.ensures)) (c.as_slice-2.ensures.bytes ∙ c.pad_bytes-pad.ensures))
     (ap (λ b. b ∷ []) c.from.ensures)
     ∙ frame_pieces count kind c.args.args.now zero_pad (1 ∷ [])
