@@ -1,8 +1,9 @@
 // A memory board that may lose power between any two calls.
 #![tactic(auto)]
 
-ghost use Rattle.std.specs.Prelude.{◌≡◌, ℕ, ◌^◌, ◌<◌, ◌≤◌};
+ghost use Rattle.std.specs.Prelude.{◌≡◌, ℕ, ◌^◌, ◌<◌, ◌≤◌, MatchResult};
 ghost use Rattle.model.specs.Writes.{Meaning, store, post, settle, Cut};
+ghost use Rattle.model.specs.Faults.{Fault};
 ghost use Rattle.model.specs.Calls.{Wrote, Answered};
 ghost use Rattle.board.specs.Rounds.{Checked};
 
@@ -65,6 +66,16 @@ pub trait Board {
 
     // What L may be.
     ghost bounded: { (1 ≤ width) × (width ≤ 4096) };
+}
+
+// Refuses a place or a line that is `end` or more with 2.
+pub(crate) fn within(given: usize, end: usize) -> Result<(), BoardFault>
+    ensures { MatchResult result (λ _. given < end) (λ e. (end ≤ given) × Fault 2 given e) }
+{
+    if given >= end {
+        return Err(BoardFault::Outside { given });
+    }
+    Ok(())
 }
 
 // Refuses a stretch of `count` places from `at` on that passes the board's end with 2 and the first place outside.

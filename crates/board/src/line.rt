@@ -9,7 +9,7 @@ ghost use Rattle.board.specs.Cells.{place_of, settled_at, after_store, after_set
 ghost use Rattle.board.specs.Lines.{line_width, line_board, ChangedBy, with_line, new_table, stored_table, posted_table, settled_table, cut_table, TableAfter, TableCut};
 
 use crate::supply::draw;
-use crate::{Board, Slip};
+use crate::{Board, Slip, within};
 use model::faults::BoardFault;
 
 // The places in a line.
@@ -166,7 +166,8 @@ fn settle_all(cells: &mut [Cell])
 }
 
 // A board over a lent table of cells.
-// kept: it repeats the through board's guards over another table, since each make of the project shows the trait for its own meaning.
+// kept: `over` and `size` are like the through board's over another table, since each make of the project shows the trait for its own
+// meaning.
 #[derive(Drop)]
 pub struct LineBoard<'a> {
     cells: &'a mut [Cell],
@@ -220,9 +221,7 @@ impl Board for LineBoard<'_> {
         ensures wrote { Wrote line_width (store place byte) (line_board self.old) result (line_board self.new) }
         ensures leaves { Leaves result (stored_table place byte) self.old.cells.now self.new.cells.now }
     {
-        if place >= self.size() {
-            return Err(BoardFault::Outside { given: place });
-        }
+        within(place, self.size())?;
         draw(&mut self.supply)?;
         store_cell(self.cells, place, byte);
         Ok(())

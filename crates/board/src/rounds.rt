@@ -15,7 +15,7 @@ pub struct Stopped {
 
 // Stores the bytes from `at` on.
 // kept: place and bytes go side by side through this file, as in std's `write_all_at`, and `OnBoard` with them: a struct of both would be
-// made for each call and taken apart in each function, and its size is known only beside the board.
+// made for each call and taken apart in each function, and whether it lies on the board can be said only with the board at hand.
 fn store_bytes<B: Board>(board: &mut B, at: usize, bytes: &[u8]) -> Result<u64, Stopped>
     requires { OnBoard at (length bytes.now) (B.meaning board.old).size }
     ensures { Carried B.width (stores at bytes.now) (B.meaning board.old) result (B.meaning board.new) }

@@ -7,13 +7,14 @@ ghost use Rattle.board.specs.Tables.{Leaves};
 ghost use Rattle.board.specs.Through.{through_width, through_board, stored_bytes, same_bytes};
 
 use crate::supply::draw;
-use crate::{Board, Slip};
+use crate::{Board, Slip, within};
 use model::faults::BoardFault;
 
 // The places in a line.
 const WIDTH: usize = 1;
 
 // A board over lent bytes.
+// kept: beside the line board, see there.
 #[derive(Drop)]
 pub struct ThroughBoard<'a> {
     bytes: &'a mut [u8],
@@ -59,9 +60,7 @@ impl Board for ThroughBoard<'_> {
         ensures wrote { Wrote through_width (store place byte) (through_board self.old) result (through_board self.new) }
         ensures leaves { Leaves result (stored_bytes place byte) self.old.bytes.now self.new.bytes.now }
     {
-        if place >= self.size() {
-            return Err(BoardFault::Outside { given: place });
-        }
+        within(place, self.size())?;
         draw(&mut self.supply)?;
         self.bytes[place] = byte;
         Ok(())
@@ -71,9 +70,7 @@ impl Board for ThroughBoard<'_> {
         ensures wrote { Wrote through_width (post line) (through_board self.old) result (through_board self.new) }
         ensures leaves { Leaves result same_bytes self.old.bytes.now self.new.bytes.now }
     {
-        if line >= self.size() {
-            return Err(BoardFault::Outside { given: line });
-        }
+        within(line, self.size())?;
         draw(&mut self.supply)?;
         Ok(())
     }

@@ -8,7 +8,7 @@ use std::process::Abort;
 pub(crate) const MOST: u64 = u64::MAX;
 
 // An answer, with a fault told by its number and its detail.
-// kept: what a fault tells is what is tested here, and not which case of its enum it is.
+// kept: what a fault tells is what is tested here, and not which case of its enum it is; the two crates of tests share none.
 pub(crate) type Told<T> = Result<T, (u8, u64)>;
 
 fn told<F: Fault>(fault: F) -> (u8, u64) {

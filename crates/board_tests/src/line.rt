@@ -32,6 +32,7 @@ fn line_rounds(rt: HostRuntime) {
 }
 
 // What is found of place 1 of three, settled at 5, after these stores there and a cut with this list.
+// kept: the answers of the stores are dropped, since what is found shows whether they were granted.
 fn found(stores: &[u8], wanted: &[u8]) -> Told<u8> {
     let mut cells = [Cell::settled_at(5); 3];
     let mut board = LineBoard::over(&mut cells);

@@ -24,7 +24,7 @@ pub struct Answer {
 // One activity.
 #[derive(Drop)]
 pub struct PlainFrame {
-    // kept: a number, since each programme has kinds of its own; no other parameter here is a `u16`.
+    // kept: a number, as the project asks: each programme has kinds of its own.
     pub kind: u16,
     pub args: Vec<u8>,
     pub progress: Progress,

@@ -13,7 +13,7 @@ pub enum Choice {
     Give(Answer),
     // It opens an activity of this kind; so many argument bytes stand at the front of the lent buffer.
     // kept: the project lends a programme the buffer for these bytes, so a choice holds their number, and no bytes of its own; and a kind is
-    // a number, since each programme has kinds of its own.
+    // a number, as it asks.
     Call { kind: u16, count: usize },
 }
 

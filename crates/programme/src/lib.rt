@@ -21,7 +21,7 @@ pub const BOTTOM: u16 = 0;
 // The top frame, as it is lent to a programme.
 #[derive(Clone, Copy, PartialEq, Eq, Debug)]
 pub struct Top<'a> {
-    // kept: a number, since each programme has kinds of its own; no other parameter here is a `u16`.
+    // kept: a number, as the project asks: each programme has kinds of its own.
     pub kind: u16,
     pub args: &'a [u8],
     pub progress: Progress,

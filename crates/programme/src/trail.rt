@@ -130,6 +130,7 @@ impl Activity for Question {
 }
 
 // The bottom adds up the points handed to it; without an answer, the start touch opens a quiz.
+// kept: of the room that it requires see `room`.
 fn choose_at_bottom(
     top: &Top<'_>,
     touch: Option<u8>,
@@ -151,7 +152,7 @@ fn choose_at_bottom(
 }
 
 // What a quiz's progress says: how many questions it asked, and how many points they gave.
-// kept: a pair that its caller takes apart, since the project asks for one.
+// kept: a pair that its callers take apart, since the project asks for one.
 fn split(progress: Progress) -> (u8, u8)
     ensures { result ≡ (asked progress, points progress) }
 {
@@ -172,6 +173,7 @@ fn score(progress: Progress, answer: Answer) -> Progress
 }
 
 // A quiz notes the answer to a question, asks the next one, or gives its points.
+// kept: of the room that it requires see `room`.
 fn choose_at_quiz(top: &Top<'_>, out: &mut [u8]) -> Result<Choice, ProgrammeFault>
     requires { max_args ≤ length out.old }
     ensures { Answered (at_quiz (frame top.now)) out.old result out.new }

@@ -26,6 +26,7 @@ fn three_rounds<B: Board>(board: &mut B) -> Result<u64, StackFault>
 // Makes the region an empty stack, the bottom alone with progress 0 and no answer, and answers how many writing calls that took. On a
 // board whose size no region may have it is refused with 8, and the board stays. Where the power ends it, it is refused with 1 and
 // the number of writing calls carried out.
+// kept: it refuses a size as `read_header` does; a function for these two lines is no plainer.
 pub fn format<B: Board>(board: &mut B) -> Result<u64, StackFault>
     ensures { FormatAnswered B.width (B.meaning board.old) result (B.meaning board.new) }
 {

@@ -92,7 +92,7 @@ pub struct Spot {
 #[derive(Clone, Copy)]
 pub struct FrameHead {
     pub extent: Extent,
-    // kept: a number, since each programme has kinds of its own; no other parameter here is a `u16`.
+    // kept: a number, as the project asks: each programme has kinds of its own.
     pub kind: u16,
     pub marker: Marker,
     pub pad: PadContent,

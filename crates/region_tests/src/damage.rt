@@ -8,6 +8,7 @@ use region::read::{Spot, read_frame, read_header};
 const SIZE: usize = 83;
 
 // The bottom frame at 5 and a frame of kind 1 at 44.
+// kept: the answer of the format is dropped, since what is read shows whether it was granted.
 fn two_frames() -> [u8; SIZE] {
     let mut bytes = [0; SIZE];
     let _ = format(&mut ThroughBoard::over(&mut bytes));

@@ -67,6 +67,7 @@ fn give<B: Board>(board: &mut B, spot: Spot, answer: Answer) -> Result<(), Stack
 // What frames of both kinds tell.
 #[derive(Clone, Copy, PartialEq, Eq, Debug)]
 struct Frame {
+    // kept: a number, as in both kinds of frame.
     kind: u16,
     count: usize,
     progress: Progress,

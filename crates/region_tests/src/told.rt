@@ -11,7 +11,7 @@ pub(crate) const UPPER: Spot = Spot {
 };
 
 // An answer, with a fault told by its number and its detail.
-// kept: what a fault tells is what is tested here, and not which case of its enum it is.
+// kept: what a fault tells is what is tested here, and not which case of its enum it is; the two crates of tests share none.
 pub(crate) type Told<T> = Result<T, (u8, u64)>;
 
 pub(crate) fn told<T, F: Fault>(answer: Result<T, F>) -> Told<T> {

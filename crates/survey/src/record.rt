@@ -19,6 +19,7 @@ pub(crate) const OLD: [u8; LEN] = *b"old-vote";
 pub(crate) const NEW: [u8; LEN] = *b"NEW+VOTE";
 
 // Settles the bytes from `at` on, and gives the power a supply.
+// kept: the answer of the round is dropped, since a shorter board is no error here.
 pub(crate) fn prepare<B: Board>(board: &mut B, supply: Option<u64>, at: usize, bytes: &[u8])
     ensures size { (B.meaning board.new).size ≡ (B.meaning board.old).size }
     ensures prepared { at + length bytes.now ≤ (B.meaning board.old).size → Prepared at bytes.now supply (B.meaning board.new) }
