@@ -1,5 +1,5 @@
 -- The record through its update and a power cut, by the laws of boards.
-use Rattle.std.proofs.Common.{◌≡◌, ℕ, ◌+◌, ◌≤◌, List, [], ◌∷◌, length, get_or, take, Some, None, Ok, Err, Option, Result, MatchResult, sym, refl, ap, ◌∙◌, subst, inl, inr, ⊎_elim, arith}
+use Rattle.std.proofs.Common.{◌≡◌, ℕ, ◌+◌, ◌<◌, ◌≤◌, List, [], ◌∷◌, length, get_or, take, Some, None, Ok, Err, Option, Result, MatchResult, sym, refl, ap, ◌∙◌, subst, inl, inr, ⊎_elim, arith}
 use native.Mathlib.Nat.{min-eq_left, min-eq_right}
 use Rattle.std.proofs.lemmas.List.{take_all}
 use Rattle.model.specs.Places.{present}
@@ -43,21 +43,28 @@ pub record CarriedOut (L : ℕ) (ws : List Write) (s : Option ℕ) (k : ℕ) (m 
   pub count : k ≡ carries ws s
   pub ran : Ran L (take k ws) m n
 
-pub all_carried : (L : ℕ) (ws : List Write) (s : Option ℕ) (k : ℕ) (m n : Meaning) → m.supply ≡ s → k ≡ length ws → Ran L ws m n → CarriedOut L ws s k m n
-all_carried L ws s k m n e count r =
-    record {
-      count = count ∙ spent s (subst (λ t. Spends (length ws) t n.supply) e (ran_spends L ws m n r).1);
-      ran = subst (λ vs. Ran L vs m n) (sym (take_all k ws (omega (arith, count)))) r;
-    }
+-- how many calls were carried out of a list: all of them, or as many as the supply had
+pub ran_carries : (L : ℕ) (ws : List Write) (s : Option ℕ) (m n : Meaning) → m.supply ≡ s → Ran L ws m n → length ws ≡ carries ws s
+ran_carries L ws s m n e r = spent s (subst (λ t. Spends (length ws) t n.supply) e (ran_spends L ws m n r).1)
   where
     spent : (s : Option ℕ) → Spends (length ws) s n.supply → length ws ≡ carries ws s
     spent None h = refl
     spent (Some s) h = sym (min-eq_right h.0)
 
+pub broken_carries : (ws : List Write) (k : ℕ) (s : Option ℕ) → s ≡ Some k → k < length ws → k ≡ carries ws s
+broken_carries ws k s e lt = sym (ap (carries ws) e ∙ min-eq_left (omega arith))
+
+pub all_carried : (L : ℕ) (ws : List Write) (s : Option ℕ) (k : ℕ) (m n : Meaning) → m.supply ≡ s → k ≡ length ws → Ran L ws m n → CarriedOut L ws s k m n
+all_carried L ws s k m n e count r =
+    record {
+      count = count ∙ ran_carries L ws s m n e r;
+      ran = subst (λ vs. Ran L vs m n) (sym (take_all k ws (omega (arith, count)))) r;
+    }
+
 pub some_carried : (L : ℕ) (ws : List Write) (s : Option ℕ) (j k : ℕ) (m n : Meaning) → m.supply ≡ s → k ≡ j → Broken L ws m j n → CarriedOut L ws s k m n
 some_carried L ws s j k m n e same b =
     record {
-      count = same ∙ sym (ap (carries ws) (sym e ∙ b.supply) ∙ min-eq_left (omega (arith, b.short)));
+      count = same ∙ broken_carries ws j s (sym e ∙ b.supply) b.short;
       ran = subst (λ i. Ran L (take i ws) m n) (sym same) b.ran;
     }
 

@@ -30,6 +30,19 @@ pub enum Finding {
     Empty,
 }
 
+impl Finding {
+    // What is printed of it. It stands apart from `Display`, whose promise holds only of a granted write.
+    fn text(self) -> &'static str
+        ensures { result.now ≡ finding_text self }
+    {
+        match self {
+            Finding::AsBefore => "as before",
+            Finding::Blank => "blank",
+            Finding::Empty => "empty",
+        }
+    }
+}
+
 // Which of the three these bytes are. What is neither blank nor as before is taken for empty; that nothing else is found is proved of
 // `found`.
 impl From<[u8; LEAST_SIZE]> for Finding {
@@ -52,11 +65,7 @@ impl fmt::Display for Finding {
     ghost styled_output = { λ finding spec. Some (padded spec (finding_text finding)) };
 
     fn fmt<W: fmt::Write>(&self, f: &mut fmt::Formatter<W>) -> fmt::Result {
-        f.pad(match self {
-            Finding::AsBefore => "as before",
-            Finding::Blank => "blank",
-            Finding::Empty => "empty",
-        })
+        f.pad(self.text())
     }
 }
 
